@@ -1,0 +1,6 @@
+pub mod Membership
+pub mod Below
+pub mod Places
+pub mod AttributeNames
+pub mod CutCharacters
+pub mod Flattening

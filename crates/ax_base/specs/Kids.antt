@@ -1,0 +1,36 @@
+-- The objects of the tree (WAI-ARIA 1.2, section 7: including and excluding elements).
+use Rattle.std.specs.Prelude.{ℕ, Bool, if◌then◌else◌, List, [], ◌∷◌, flat_map}
+use Rattle.std.specs.List.{list_any}
+use Rattle.ax_base.specs.Recursion.{from_below}
+use Rattle.ax_base.specs.Document.{Document, spot, children, ancestors, root}
+use Rattle.ax_base.specs.Roles.{prunes, ignored}
+
+-- whether an ancestor leaves out what is below it
+abbrev pub is_pruned : Document → ℕ → Bool
+is_pruned d n = list_any (λ a. prunes (spot d a)) (ancestors d n)
+
+-- what decides how a child is taken: its id, whether it is left out with what is below it, and whether it is left out alone
+pub record Standing : Type 0 where
+  pub id : ℕ
+  pub out : Bool
+  pub ignored : Bool
+
+-- how a node is taken
+abbrev pub standing : Document → ℕ → Standing
+standing d n = record { id = n; out = is_pruned d n; ignored = ignored (spot d n) }
+
+-- a pruned child gives nothing, an ignored child gives its kids, any other gives itself
+abbrev pub kids_from : Standing → List (Standing × List ℕ) → List ℕ
+kids_from n below = flat_map (λ c. if c.0.out then [] else (if c.0.ignored then c.1 else c.0.id ∷ [])) below
+
+-- the objects that hang on a node, in order
+abbrev pub kids : Document → ℕ → List ℕ
+kids d n = from_below kids_from (standing d) (children d) 64 n
+
+-- an object, and then what is below each of its kids
+abbrev pub objects_from : ℕ → List (ℕ × List ℕ) → List ℕ
+objects_from n below = n ∷ flat_map (λ c. c.1) below
+
+-- the objects of the tree, in preorder: what is reached from the root by kids
+abbrev pub objects : Document → List ℕ
+objects d = from_below objects_from (λ n. n) (kids d) 64 root

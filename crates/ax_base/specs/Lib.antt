@@ -1,0 +1,9 @@
+pub mod RoleWords
+pub mod Characters
+pub mod Attributes
+pub mod Recursion
+pub mod Document
+pub mod Trees
+pub mod Roles
+pub mod Kids
+pub mod Names

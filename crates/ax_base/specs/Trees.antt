@@ -1,0 +1,21 @@
+-- Documents that are trees.
+use Rattle.std.specs.Prelude.{◌≡◌, ◌≢◌, ◌<◌, ◌≤◌, ℕ, suc, true, false, [], length, get_or}
+use Rattle.std.specs.List.Sorted.{IsStrictlyIncreasing}
+use Rattle.ax_base.specs.Document.{Document, root, has, ids, body, is_text, children, IsChild}
+
+-- Each node hangs on the root, in one place, at most 64 levels below it; texts have no children; ids rise.
+pub record IsTree (d : Document) : Type 0 where
+  -- how far a node is below the root
+  pub level : ℕ → ℕ
+  pub has_root : has d root ≡ true
+  pub root_level : level root ≡ 0
+  pub root_element : is_text (body d root) ≡ false
+  pub known : (n c : ℕ) → IsChild d n c → has d c ≡ true
+  pub deeper : (n c : ℕ) → IsChild d n c → level c ≡ suc (level n)
+  pub shallow : (n : ℕ) → level n ≤ 64
+  pub one_parent : (m n c : ℕ) → IsChild d m c → IsChild d n c → m ≡ n
+  pub hung : (n : ℕ) → has d n ≡ true → n ≢ root → (p : ℕ) × IsChild d p n
+  -- no child stands twice
+  pub once : (n i j : ℕ) → i < length (children d n) → j < length (children d n) → get_or (children d n) i 0 ≡ get_or (children d n) j 0 → i ≡ j
+  pub bare : (n : ℕ) → is_text (body d n) ≡ true → children d n ≡ []
+  pub rising : IsStrictlyIncreasing (ids d)

@@ -1,0 +1,111 @@
+//! The attributes of an element.
+ghost use Rattle.std.specs.Prelude.{◌≡◌, ◌++◌, ◌∷◌, IfOk, OnOk, OnErr, None, [], option_copied};
+ghost use Rattle.ax_base.specs.Attributes.{value_of, HasDistinctNames};
+
+use crate::{NoMemory, Text};
+use std::alloc::Global;
+use std::marker::Model;
+
+/// An attribute: its name and its value.
+#[derive(Drop)]
+pub struct Attr {
+    pub name: Text,
+    pub value: Text,
+}
+
+impl Attr {
+    /// An equal attribute.
+    pub fn copy(&self, alloc: Global) -> Result<Attr, NoMemory>
+        ensures { IfOk result (λ attr. attr ≡ self.now) }
+    {
+        Ok(Attr {
+            name: self.name.copy(alloc)?,
+            value: self.value.copy(alloc)?,
+        })
+    }
+}
+
+/// The attributes of an element, with distinct names. A clause sees them as a list.
+#[derive(Drop)]
+pub struct Attrs {
+    items: Vec<Attr>,
+}
+
+impl Model for Attrs {
+    ghost use Rattle.std.specs.Prelude.{List};
+    ghost use Rattle.ax_base.specs.declared.attrs.Attr.{Attr};
+    ghost use Rattle.ax_base.specs.Attributes.{HasDistinctNames};
+
+    ghost Value = { List Attr };
+
+    ghost view = { λ a. a.items.items };
+
+    ghost invariant = { λ a. HasDistinctNames a.items.items };
+}
+
+impl Attrs {
+    /// No attributes. It takes no memory.
+    pub fn new(alloc: Global) -> Attrs
+        ensures { result ≡ [] }
+    {
+        Attrs {
+            items: Vec::new(alloc),
+        }
+    }
+
+    /// These attributes. It takes no memory.
+    pub fn from_vec(items: Vec<Attr>) -> Attrs
+        requires { HasDistinctNames items.items }
+        ensures { result ≡ items.items }
+    {
+        Attrs { items }
+    }
+
+    /// The attributes in their order.
+    pub fn as_slice(&self) -> &[Attr]
+        ensures items { result.now ≡ self.now }
+        ensures distinct { HasDistinctNames self.now }
+    {
+        self.items.as_slice()
+    }
+
+    /// The attributes as a `Vec`. It takes no memory.
+    pub fn into_vec(self) -> Vec<Attr>
+        ensures { result.items ≡ self }
+    {
+        self.items
+    }
+
+    /// Adds an attribute at the end. At an error nothing changes.
+    pub fn push(&mut self, attr: Attr) -> Result<(), NoMemory>
+        requires { value_of attr.name self.old ≡ None }
+        ensures ok { OnOk result (self.new ≡ self.old ++ attr ∷ []) }
+        ensures err { OnErr result (self.new ≡ self.old) }
+    {
+        self.items.push(attr)?;
+        Ok(())
+    }
+
+    /// Equal attributes.
+    pub fn copy(&self, alloc: Global) -> Result<Attrs, NoMemory>
+        ensures { IfOk result (λ attrs. attrs ≡ self.now) }
+    {
+        let mut items = Vec::new(alloc);
+        for attr in &self.items {
+            items.push(attr.copy(alloc)?)?;
+        }
+        Ok(Attrs { items })
+    }
+
+    /// The value of an attribute, or `None` exactly where there is none of that name.
+    pub fn get(&self, name: &str) -> Option<&Text>
+        ensures { option_copied result ≡ value_of name.now self.now }
+    {
+        for attr in &self.items {
+            if attr.name.is(name) {
+                return Some(&attr.value);
+            }
+        }
+        None
+    }
+}

@@ -1,0 +1,16 @@
+//! What a node of the document is, apart from its place.
+use crate::{Attrs, Rect, Runs, Text};
+
+/// An element with its tag, attributes and frame, or a text with its characters and runs.
+#[derive(Drop)]
+pub enum Body {
+    Element {
+        tag: Text,
+        attrs: Attrs,
+        frame: Rect,
+    },
+    Words {
+        chars: Text,
+        runs: Runs,
+    },
+}

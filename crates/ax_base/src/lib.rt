@@ -1,0 +1,24 @@
+//! Plain values of the accessibility core, and the definitions that all layers cite.
+#![tactic(auto)]
+
+mod attrs;
+mod body;
+mod ids;
+mod lists;
+mod memory;
+mod rect;
+mod role;
+mod steps;
+mod text;
+mod white;
+
+pub use attrs::{Attr, Attrs};
+pub use body::Body;
+pub use ids::{Moment, ObjId, Who};
+pub use lists::{Ids, Runs};
+pub use memory::NoMemory;
+pub use rect::{Rect, Run};
+pub use role::{Role, role_word};
+pub use steps::Steps;
+pub use text::{Text, cap512};
+pub use white::flat;
