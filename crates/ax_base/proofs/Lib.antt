@@ -4,3 +4,4 @@ pub mod Places
 pub mod AttributeNames
 pub mod CutCharacters
 pub mod Flattening
+pub mod KidsLaws

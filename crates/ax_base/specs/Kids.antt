@@ -23,9 +23,17 @@ standing d n = record { id = n; out = is_pruned d n; ignored = ignored (spot d n
 abbrev pub kids_from : Standing → List (Standing × List ℕ) → List ℕ
 kids_from n below = flat_map (λ c. if c.0.out then [] else (if c.0.ignored then c.1 else c.0.id ∷ [])) below
 
--- the objects that hang on a node, in order
+-- the objects that hang on a node, in order: what its children give
 abbrev pub kids : Document → ℕ → List ℕ
 kids d n = from_below kids_from (standing d) (children d) 64 n
+
+-- what a child gives: nothing, its kids or itself
+abbrev pub taken : Document → ℕ → List ℕ
+taken d c = if is_pruned d c then [] else (if ignored (spot d c) then kids d c else c ∷ [])
+
+-- what is made of each object out of itself and of its kids, with what is made of those
+abbrev pub from_kids : {A : Type 0} → (ℕ → List (ℕ × A) → A) → Document → ℕ → A
+from_kids make d n = from_below make (λ k. k) (kids d) 64 n
 
 -- an object, and then what is below each of its kids
 abbrev pub objects_from : ℕ → List (ℕ × List ℕ) → List ℕ
@@ -33,4 +41,4 @@ objects_from n below = n ∷ flat_map (λ c. c.1) below
 
 -- the objects of the tree, in preorder: what is reached from the root by kids
 abbrev pub objects : Document → List ℕ
-objects d = from_below objects_from (λ n. n) (kids d) 64 root
+objects d = from_kids objects_from d root

@@ -1,0 +1,89 @@
+-- Kids, from children.
+use Rattle.std.proofs.Common.{◌≡◌, ◌⊎◌, inl, inr, ℕ, zero, suc, ◌-◌, ◌<◌, ◌≤◌, List, [], ◌∷◌, ◌++◌, map, Contains, Bool, true, false, cond, ◌||◌, refl, sym, ap, subst, ◌∙◌, arith}
+use Rattle.std.specs.List.{flat_map, list_any}
+use Rattle.std.specs.Option.{option_map_or}
+use Rattle.ax_base.specs.Recursion.{from_below}
+use Rattle.ax_base.specs.Document.{Document, spot, children, parent, lineage, ancestors, root, IsChild}
+use Rattle.ax_base.specs.Trees.{IsTree}
+use Rattle.ax_base.specs.Roles.{prunes, ignored}
+use Rattle.ax_base.specs.Kids.{Standing, standing, kids, kids_from, taken, is_pruned, from_kids}
+use Rattle.ax_base.proofs.Below.{from_below_unfolds}
+use Rattle.ax_base.proofs.Membership.{Contains-head, Contains-tail}
+use Rattle.ax_base.proofs.Places.{parent-child, lineage-child, lineage-root}
+
+module _ (d : Document) (t : IsTree d) where
+  falls : (n c : ℕ) → IsChild d n c → 64 - t.level c < 64 - t.level n
+  falls n c child = let e = t.deeper n c child in let s = t.shallow c in omega arith
+
+  pub kids_unfolds : (n : ℕ) → kids d n ≡ kids_from (standing d n) (map (λ c. (standing d c, kids d c)) (children d n))
+  kids_unfolds n = from_below_unfolds kids_from (standing d) (children d) (λ n. 64 - t.level n) falls 64 n (omega arith)
+
+  flat_taken : (cs : List ℕ) → kids_from (standing d 0) (map (λ c. (standing d c, kids d c)) cs) ≡ flat_map (taken d) cs
+  flat_taken [] = refl
+  flat_taken (c ∷ cs) = ap (λ l. taken d c ++ l) (flat_taken cs)
+
+  -- the kids of a node are what its children give
+  pub kids-children : (n : ℕ) → kids d n ≡ flat_map (taken d) (children d n)
+  kids-children n = kids_unfolds n ∙ flat_taken (children d n)
+
+  in_append : (xs ys : List ℕ) (x : ℕ) → Contains (xs ++ ys) x → Contains xs x ⊎ Contains ys x
+  in_append [] ys x inside = inr inside
+  in_append (z ∷ zs) ys x (zero, low, is) = inl (0, omega arith, is)
+  in_append (z ∷ zs) ys x (suc k, low, is) = elim (in_append zs ys x (k, omega arith, is)) [ inl left ↦ inl (Contains-tail z x zs left) | inr right ↦ inr right ]
+
+  -- what is in a joined list is in one of its parts
+  pub in_flat_map : (f : ℕ → List ℕ) (cs : List ℕ) (x : ℕ) → Contains (flat_map f cs) x → (c : ℕ) × Contains cs c × Contains (f c) x
+  in_flat_map f [] x inside = absurd (omega arith)
+  in_flat_map f (c ∷ cs) x inside = elim (in_append (f c) (flat_map f cs) x inside) [
+    | inl here ↦ (c, Contains-head c cs, here)
+    | inr more ↦ let rest = in_flat_map f cs x more in (rest.0, Contains-tail c rest.0 cs rest.1, rest.2)
+  ]
+
+  only_in : (x y : ℕ) → Contains (x ∷ []) y → x ≡ y
+  only_in x y (zero, low, is) = is
+  only_in x y (suc k, low, is) = absurd (omega arith)
+
+  -- what a child gives is deeper than what it is a child of
+  taken_deeper : (n c k : ℕ) → IsChild d n c → (Contains (kids d c) k → t.level c < t.level k) → Contains (taken d c) k → t.level n < t.level k
+  taken_deeper n c k child below inside = go (is_pruned d c) (ignored (spot d c)) inside
+    where
+      go : (x y : Bool) → Contains (cond x [] (cond y (kids d c) (c ∷ []))) k → t.level n < t.level k
+      go true y inside = absurd (omega arith)
+      go false true inside = let e = t.deeper n c child in let more = below inside in omega arith
+      go false false inside = let e = t.deeper n c child in let same : t.level c ≡ t.level k = ap t.level (only_in c k inside) in omega arith
+
+  deeper_within : (levels n k : ℕ) → 64 - t.level n ≤ levels → Contains (kids d n) k → t.level n < t.level k
+  deeper_within zero n k fits inside =
+      let found = in_flat_map (taken d) (children d n) k (subst (λ l. Contains l k) (kids-children n) inside) in
+      let e = t.deeper n found.0 found.1 in let s = t.shallow found.0 in absurd (omega arith)
+  deeper_within (suc levels) n k fits inside =
+      let found = in_flat_map (taken d) (children d n) k (subst (λ l. Contains l k) (kids-children n) inside) in
+      let e = t.deeper n found.0 found.1 in
+      taken_deeper n found.0 k found.1 (λ more. deeper_within levels found.0 k (omega arith) more) found.2
+
+  -- a kid stands deeper in the document than the object that it hangs on
+  pub kids_deeper : (n k : ℕ) → Contains (kids d n) k → t.level n < t.level k
+  kids_deeper n k inside = deeper_within 64 n k (omega arith) inside
+
+  kids_fall : (n k : ℕ) → Contains (kids d n) k → 64 - t.level k < 64 - t.level n
+  kids_fall n k inside = let e = kids_deeper n k inside in let s = t.shallow k in omega arith
+
+  -- what is made of an object is made of its kids and of what is made of those
+  pub from_kids_unfolds : {A : Type 0} (make : ℕ → List (ℕ × A) → A) (n : ℕ) → from_kids make d n ≡ make n (map (λ c. (c, from_kids make d c)) (kids d n))
+  from_kids_unfolds make n = from_below_unfolds make (λ n. n) (kids d) (λ n. 64 - t.level n) kids_fall 64 n (omega arith)
+
+  -- the ancestors of a child are its parent and the parent's ancestors
+  pub ancestors-child : (n c : ℕ) → IsChild d n c → ancestors d c ≡ lineage d n
+  ancestors-child n c child = ap (λ o. option_map_or (lineage d) o []) (parent-child d t n c child)
+
+  -- a child is pruned where its parent prunes or is pruned
+  pub pruned-child : (n c : ℕ) → IsChild d n c → is_pruned d c ≡ list_any (λ a. prunes (spot d a)) (lineage d n)
+  pruned-child n c child = ap (list_any (λ a. prunes (spot d a))) (ancestors-child n c child)
+
+  -- whether a child or one of its ancestors prunes
+  pub prunes-child : (n c : ℕ) → IsChild d n c → list_any (λ a. prunes (spot d a)) (lineage d c) ≡ (prunes (spot d c) || list_any (λ a. prunes (spot d a)) (lineage d n))
+  prunes-child n c child = ap (list_any (λ a. prunes (spot d a))) (lineage-child d t n c child)
+
+  -- below the root nothing is pruned but by the root, and that prunes nothing
+  pub prunes-root : list_any (λ a. prunes (spot d a)) (lineage d root) ≡ (prunes (spot d root) || false)
+  prunes-root = ap (list_any (λ a. prunes (spot d a))) (lineage-root d t)
