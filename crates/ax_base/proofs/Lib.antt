@@ -5,3 +5,4 @@ pub mod AttributeNames
 pub mod CutCharacters
 pub mod Flattening
 pub mod KidsLaws
+pub mod Written

@@ -1,5 +1,6 @@
 pub mod RoleWords
 pub mod Characters
+pub mod Quoting
 pub mod Attributes
 pub mod Recursion
 pub mod Document
