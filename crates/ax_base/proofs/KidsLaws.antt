@@ -1,15 +1,16 @@
 -- Kids, from children.
-use Rattle.std.proofs.Common.{◌≡◌, ◌⊎◌, inl, inr, ℕ, zero, suc, ◌-◌, ◌<◌, ◌≤◌, List, [], ◌∷◌, ◌++◌, map, Contains, Bool, true, false, cond, ◌||◌, refl, sym, ap, subst, ◌∙◌, arith}
+use Rattle.std.proofs.Common.{◌≡◌, ◌≢◌, ◌⊎◌, inl, inr, ℕ, zero, suc, ◌-◌, ◌<◌, ◌≤◌, List, [], ◌∷◌, ◌++◌, map, Contains, Bool, true, false, cond, ◌||◌, refl, sym, ap, subst, ◌∙◌, arith}
+use Rattle.std.proofs.lemmas.Bool.Decides.{eqb_tells}
 use Rattle.std.specs.List.{flat_map, list_any}
 use Rattle.std.specs.Option.{option_map_or}
 use Rattle.ax_base.specs.Recursion.{from_below}
-use Rattle.ax_base.specs.Document.{Document, spot, children, parent, lineage, ancestors, root, IsChild}
+use Rattle.ax_base.specs.Document.{Document, has, spot, children, parent, lineage, ancestors, root, IsChild}
 use Rattle.ax_base.specs.Trees.{IsTree}
 use Rattle.ax_base.specs.Roles.{prunes, ignored}
-use Rattle.ax_base.specs.Kids.{Standing, standing, kids, kids_from, taken, is_pruned, from_kids}
+use Rattle.ax_base.specs.Kids.{Standing, standing, kids, kids_from, taken, is_pruned, is_shut, from_kids}
 use Rattle.ax_base.proofs.Below.{from_below_unfolds}
 use Rattle.ax_base.proofs.Membership.{Contains-head, Contains-tail}
-use Rattle.ax_base.proofs.Places.{parent-child, lineage-child, lineage-root}
+use Rattle.ax_base.proofs.Places.{parent-child, parent-root, lineage-child, lineage-root}
 
 module _ (d : Document) (t : IsTree d) where
   falls : (n c : ℕ) → IsChild d n c → 64 - t.level c < 64 - t.level n
@@ -77,13 +78,27 @@ module _ (d : Document) (t : IsTree d) where
   ancestors-child n c child = ap (λ o. option_map_or (lineage d) o []) (parent-child d t n c child)
 
   -- a child is pruned where its parent prunes or is pruned
-  pub pruned-child : (n c : ℕ) → IsChild d n c → is_pruned d c ≡ list_any (λ a. prunes (spot d a)) (lineage d n)
+  pub pruned-child : (n c : ℕ) → IsChild d n c → is_pruned d c ≡ is_shut d n
   pruned-child n c child = ap (list_any (λ a. prunes (spot d a))) (ancestors-child n c child)
 
   -- whether a child or one of its ancestors prunes
-  pub prunes-child : (n c : ℕ) → IsChild d n c → list_any (λ a. prunes (spot d a)) (lineage d c) ≡ (prunes (spot d c) || list_any (λ a. prunes (spot d a)) (lineage d n))
-  prunes-child n c child = ap (list_any (λ a. prunes (spot d a))) (lineage-child d t n c child)
+  pub shut-child : (n c : ℕ) → IsChild d n c → is_shut d c ≡ (prunes (spot d c) || is_shut d n)
+  shut-child n c child = ap (list_any (λ a. prunes (spot d a))) (lineage-child d t n c child)
 
   -- below the root nothing is pruned but by the root, and that prunes nothing
-  pub prunes-root : list_any (λ a. prunes (spot d a)) (lineage d root) ≡ (prunes (spot d root) || false)
-  prunes-root = ap (list_any (λ a. prunes (spot d a))) (lineage-root d t)
+  pub shut-root : is_shut d root ≡ (prunes (spot d root) || false)
+  shut-root = ap (list_any (λ a. prunes (spot d a))) (lineage-root d t)
+
+  -- a node's lineage is the node and its ancestors
+  pub lineage-ancestors : (n : ℕ) → has d n ≡ true → lineage d n ≡ n ∷ ancestors d n
+  lineage-ancestors n there = elim (eqb_tells n root) [ inl (_, is) ↦ at_root is | inr (_, apart) ↦ below apart ]
+    where
+      at_root : n ≡ root → lineage d n ≡ n ∷ ancestors d n
+      at_root is = ap (lineage d) is ∙ lineage-root d t ∙ (λ i. sym is i ∷ option_map_or (lineage d) (sym (parent-root d t) i) []) ∙ ap (λ k. n ∷ ancestors d k) (sym is)
+
+      below : n ≢ root → lineage d n ≡ n ∷ ancestors d n
+      below apart = let up = t.hung n there apart in lineage-child d t up.0 n up.1 ∙ ap (λ l. n ∷ l) (sym (ancestors-child up.0 n up.1))
+
+  -- nothing is shown below a node that prunes or is pruned
+  pub shut-ancestors : (n : ℕ) → has d n ≡ true → is_shut d n ≡ (prunes (spot d n) || is_pruned d n)
+  shut-ancestors n there = ap (list_any (λ a. prunes (spot d a))) (lineage-ancestors n there)

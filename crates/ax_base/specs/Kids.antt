@@ -2,12 +2,16 @@
 use Rattle.std.specs.Prelude.{ℕ, Bool, if◌then◌else◌, List, [], ◌∷◌, flat_map}
 use Rattle.std.specs.List.{list_any}
 use Rattle.ax_base.specs.Recursion.{from_below}
-use Rattle.ax_base.specs.Document.{Document, spot, children, ancestors, root}
+use Rattle.ax_base.specs.Document.{Document, spot, children, lineage, ancestors, root}
 use Rattle.ax_base.specs.Roles.{prunes, ignored}
 
 -- whether an ancestor leaves out what is below it
 abbrev pub is_pruned : Document → ℕ → Bool
 is_pruned d n = list_any (λ a. prunes (spot d a)) (ancestors d n)
+
+-- whether a node or an ancestor of it leaves out what is below
+abbrev pub is_shut : Document → ℕ → Bool
+is_shut d n = list_any (λ a. prunes (spot d a)) (lineage d n)
 
 -- what decides how a child is taken: its id, whether it is left out with what is below it, and whether it is left out alone
 pub record Standing : Type 0 where
