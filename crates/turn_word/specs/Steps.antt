@@ -99,11 +99,11 @@ module _ {S D : Type 0} where
     module _ (right : D → ℕ → ℕ → S → Type 0) where
       -- 2. the page takes the slot with x, which is right for what it found
       abbrev pub PageTakes : Me S (View D) → Reading → Me S (View D) → Type 0
-      PageTakes me found w = OfPage me (λ d r. (x : S) × PageReads allowed d r found × (w ≡ (page_view d (page_holding r found.taken), (0, x) ∷ [])) × right d found.taken r.published x)
+      PageTakes me found w = OfPage me (λ d r. (x : S) × (w ≡ (page_view d (page_holding r found.taken), (0, x) ∷ [])) × right d found.taken r.published x × PageReads allowed d r found)
 
       -- 6. the client takes the slot with x, which is right for what it found
       abbrev pub ClientTakes : Me S (View D) → Reading → Me S (View D) → Type 0
-      ClientTakes me found w = OfClient me (λ d r. (x : S) × ClientReads allowed d r found × (w ≡ (client_view d (client_holding r found.published), (0, x) ∷ [])) × right d r.taken found.published x)
+      ClientTakes me found w = OfClient me (λ d r. (x : S) × (w ≡ (client_view d (client_holding r found.published), (0, x) ∷ [])) × right d r.taken found.published x × ClientReads allowed d r found)
 
       -- a try to take it wins exactly where the word is the one that was expected, and else changes nothing
       abbrev pub PageTries : ℕ → Me S (View D) → ℕ → Me S (View D) → Type 0
