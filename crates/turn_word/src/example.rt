@@ -75,6 +75,7 @@ impl Run {
 }
 
 /// What the client took: the numbers above `from`, up to `to`.
+#[derive(Drop)]
 pub struct Took {
     pub from: u32,
     pub to: u32,
