@@ -115,8 +115,8 @@ pub(crate) fn see(word: &RunWord, port: &mut RunPort, limits: &Limits) -> (u32, 
     ensures page { PageReady limits.now port.new.me }
     ensures looks { OfPage port.old.me (λ d r. port.new.me.0.page ≡ Some (record r { seen = result.0; seen_over = result.1; looks = r.looks + 1 })) }
 {
-    let seen = page_look(word, port);
-    (seen.taken, seen.client_over)
+    let sight = page_look(word, port);
+    (sight.taken, sight.client_over)
 }
 
 /// Publishes the next number, where it is within the limits at what the page sees now.
