@@ -6,7 +6,7 @@ ghost use Rattle.turn_word.specs.Steps.{ClientLooks, ClientTakes, ClientFrees, C
 use crate::law::Content;
 use crate::plays::{ClientClosing, ClientLooking, ClientTrying, Taking};
 use crate::table::{Port, Word};
-use crate::word::{CLIENT_OVER, CLIENT_TURN, ONE_TAKEN, Reading, TURNS};
+use crate::word::{CLIENT_OVER, CLIENT_TURN, ONE_TAKEN, Reading, THE_WORD, TURNS};
 use std::sync::Wait;
 use std::thread;
 
@@ -17,7 +17,7 @@ pub fn client_look<S, D, I: Content<S, D>>(word: &Word<S, D, I>, port: &mut Port
     ensures own { SamePort port.old port.new }
     ensures looks { ClientLooks I.allowed port.old.me result port.new.me }
 {
-    let found = word.load::<ClientLooking<I>>(port, 0);
+    let found = word.load::<ClientLooking<I>>(port, THE_WORD);
     Reading::of(found)
 }
 
@@ -33,9 +33,9 @@ pub fn client_acquire<S, D, I: Content<S, D>, R: Wait>(
     ensures takes { ClientTakes I.allowed I.right port.old.me result port.new.me }
 {
     for _ in rt.forever() {
-        let free = word.peek(0);
+        let free = word.peek(THE_WORD);
         if free % TURNS == 0 {
-            let found = word.compare_exchange::<ClientTrying<I>>(port, 0, free, free + CLIENT_TURN);
+            let found = word.compare_exchange::<ClientTrying<I>>(port, THE_WORD, free, free + CLIENT_TURN);
             if found == free {
                 return Reading::of(found);
             }
@@ -58,7 +58,7 @@ pub fn client_give_back<S, D, I: Content<S, D>>(
 {
     let more = u64::from(found.published - found.taken);
     let by = more.wrapping_mul(ONE_TAKEN).wrapping_sub(CLIENT_TURN);
-    word.fetch_add::<Taking>(port, 0, by);
+    word.fetch_add::<Taking>(port, THE_WORD, by);
 }
 
 /// The client is over, by one fetch-or, which returns. It must not hold the slot, and takes it no more.
@@ -68,5 +68,5 @@ pub fn client_close<S, D, I: Content<S, D>>(word: &Word<S, D, I>, port: &mut Por
     ensures own { SamePort port.old port.new }
     ensures ends { ClientEnds port.old.me port.new.me }
 {
-    word.fetch_or::<ClientClosing>(port, 0, CLIENT_OVER);
+    word.fetch_or::<ClientClosing>(port, THE_WORD, CLIENT_OVER);
 }

@@ -15,10 +15,15 @@ use std::alloc::{AllocError, Global};
 use std::marker::Model;
 use std::sync::Wait;
 
+/// The first number that does not fit into the word.
+const TOO_MANY: u32 = 1 << 30;
+
 /// How far the page may be ahead of the client, and how many moments there may be.
 #[derive(Clone, Copy)]
 pub struct Limits {
+    /// So many moments may be published that the client has not taken.
     pub ahead: u32,
+    /// So many may be published at all.
     pub most: u32,
 }
 
@@ -77,8 +82,11 @@ impl Run {
 /// What the client took: the numbers above `from`, up to `to`.
 #[derive(Drop)]
 pub struct Took {
+    /// The taken moment before.
     pub from: u32,
+    /// The taken moment now.
     pub to: u32,
+    /// The numbers.
     pub run: Run,
 }
 
@@ -97,7 +105,7 @@ pub(crate) fn start(
     ensures own { IfOk result (λ o. IfSome o (λ r. IsPortOf r.1.table_id r.0.shared.table_id × IsPortOf r.2.table_id r.0.shared.table_id)) }
     ensures ready { IfOk result (λ o. IfSome o (λ r. PageReady limits.now r.1.me × ClientReady limits.now r.2.me)) }
 {
-    if limits.most < 1 << 30 {
+    if limits.most < TOO_MANY {
         let (table, mut ports) = open::<Run, Limits, Runs>(alloc, Run::empty(alloc), limits)?;
         let page = part_page(&table.shared, &mut ports);
         let client = part_client(&table.shared, &mut ports);

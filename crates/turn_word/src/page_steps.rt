@@ -6,7 +6,7 @@ ghost use Rattle.turn_word.specs.Steps.{PageLooks, PageTakes, PageFrees, PageEnd
 use crate::law::Content;
 use crate::plays::{GivingBack, PageClosing, PageLooking, PageTrying, Publishing};
 use crate::table::{Port, Word};
-use crate::word::{ONE_PUBLISHED, PAGE_OVER, PAGE_TURN, Reading, TURNS};
+use crate::word::{ONE_PUBLISHED, PAGE_OVER, PAGE_TURN, Reading, THE_WORD, TURNS};
 use std::sync::Wait;
 use std::thread;
 
@@ -23,7 +23,7 @@ pub fn page_look<S, D, I: Content<S, D>>(word: &Word<S, D, I>, port: &mut Port<S
     ensures own { SamePort port.old port.new }
     ensures looks { PageLooks I.allowed port.old.me result port.new.me }
 {
-    let found = word.load::<PageLooking<I>>(port, 0);
+    let found = word.load::<PageLooking<I>>(port, THE_WORD);
     Reading::of(found)
 }
 
@@ -39,9 +39,9 @@ pub fn page_acquire<S, D, I: Content<S, D>, R: Wait>(
     ensures takes { PageTakes I.allowed I.right port.old.me result port.new.me }
 {
     for _ in rt.forever() {
-        let free = word.peek(0);
+        let free = word.peek(THE_WORD);
         if free % TURNS == 0 {
-            let found = word.compare_exchange::<PageTrying<I>>(port, 0, free, free + PAGE_TURN);
+            let found = word.compare_exchange::<PageTrying<I>>(port, THE_WORD, free, free + PAGE_TURN);
             if found == free {
                 return Reading::of(found);
             }
@@ -58,7 +58,7 @@ pub fn page_publish<S, D, I: Content<S, D>>(word: &Word<S, D, I>, port: &mut Por
     ensures own { SamePort port.old port.new }
     ensures frees { PageFrees 1 port.old.me port.new.me }
 {
-    word.fetch_add::<Publishing>(port, 0, PUBLISH);
+    word.fetch_add::<Publishing>(port, THE_WORD, PUBLISH);
 }
 
 /// The page gives the slot back with nothing published, by one fetch-and-add, which returns. The content must be right for what was published before.
@@ -68,7 +68,7 @@ pub fn page_give_back<S, D, I: Content<S, D>>(word: &Word<S, D, I>, port: &mut P
     ensures own { SamePort port.old port.new }
     ensures frees { PageFrees 0 port.old.me port.new.me }
 {
-    word.fetch_add::<GivingBack>(port, 0, GIVE_BACK);
+    word.fetch_add::<GivingBack>(port, THE_WORD, GIVE_BACK);
 }
 
 /// The page is over, by one fetch-or, which returns. It must not hold the slot, and takes it no more.
@@ -78,5 +78,5 @@ pub fn page_close<S, D, I: Content<S, D>>(word: &Word<S, D, I>, port: &mut Port<
     ensures own { SamePort port.old port.new }
     ensures ends { PageEnds port.old.me port.new.me }
 {
-    word.fetch_or::<PageClosing>(port, 0, PAGE_OVER);
+    word.fetch_or::<PageClosing>(port, THE_WORD, PAGE_OVER);
 }

@@ -1,7 +1,6 @@
 use Rattle.std.proofs.Common.{◌≡◌, ℕ, ◌+◌, ◌≤◌, List, [], ◌∷◌, ◌++◌, refl, sym, ap, ◌∙◌, subst, arith}
-use Rattle.atomic_table.specs.Table.{Me}
+use Rattle.turn_word.specs.Ports.{PortMe}
 use Rattle.turn_word.specs.declared.view.PageRecord.{PageRecord}
-use Rattle.turn_word.specs.declared.view.View.{View}
 use Rattle.turn_word.specs.declared.word.Reading.{Reading}
 use Rattle.turn_word.specs.declared.example.Limits.{Limits}
 use Rattle.turn_word.specs.declared.example.Run.{Run}
@@ -17,7 +16,7 @@ page_publish-requires-clause-page g c =
     let d : Limits = p.0 in
     let seen : Reading = c.page_look-seen.result in
     let found : Reading = c.page_acquire.result in
-    let looks = subst (λ (m : Me Run (View Limits)). PageLooks IsWithin m seen c.page_look-seen.new.port.me) p.2 c.page_look-seen.ensures.looks in
+    let looks = subst (λ (m : PortMe Run Limits). PageLooks IsWithin m seen c.page_look-seen.new.port.me) p.2 c.page_look-seen.ensures.looks in
     let r : PageRecord = page_looked p.1 seen in
     let h = page_held (λ _. IsRun) IsWithin d r found _ _ _ _ _ _ _ looks.1 c.page_acquire.ensures.takes c.exchange_content-run.ensures.before c.exchange_content-run.ensures.after c.exchange_content.ensures.after in
     let published = looks.0.published_is in
