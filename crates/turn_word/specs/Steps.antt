@@ -3,7 +3,6 @@ use Rattle.std.specs.Prelude.{◌≡◌, ℕ, ◌+◌, ◌==◌, [], ◌∷◌, 
 use Rattle.turn_word.specs.declared.view.Deed.TheVariants.{Look, Take}
 use Rattle.turn_word.specs.declared.view.PageRecord.{PageRecord}
 use Rattle.turn_word.specs.declared.view.ClientRecord.{ClientRecord}
-use Rattle.turn_word.specs.declared.view.View.{View}
 use Rattle.turn_word.specs.declared.word.Reading.{Reading}
 use Rattle.turn_word.specs.Words.{reading_in}
 use Rattle.turn_word.specs.Views.{view_of}
