@@ -4,3 +4,5 @@ pub mod Places
 pub mod AttributeNames
 pub mod CutCharacters
 pub mod Flattening
+pub mod Lookups
+pub mod Repeats

@@ -305,7 +305,8 @@ impl Dom {
 
     /// The parent of a node.
     fn parent_of(&self, id: ObjId) -> Option<ObjId>
-        ensures { result ≡ parent self.now id }
+        ensures value { result ≡ parent self.now id }
+        ensures tree { IsTree self.now }
     {
         match self.slots.get(id) {
             Some(slot) => slot.cell.parent,

@@ -13,3 +13,6 @@ pub use cause::EditCause;
 pub use cell::Cell;
 pub use dom::Dom;
 pub use edit::Edit;
+
+#[cfg(test)]
+mod tests;

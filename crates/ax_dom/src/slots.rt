@@ -93,12 +93,7 @@ impl Slots {
     }
 
     /// Puts an id before another among the children of a node, or as the last one. At an error nothing changes.
-    pub fn place(
-        &mut self,
-        into: ObjId,
-        before: &Option<ObjId>,
-        id: ObjId,
-    ) -> Result<(), NoMemory>
+    pub fn place(&mut self, into: ObjId, before: &Option<ObjId>, id: ObjId) -> Result<(), NoMemory>
         requires { IsSome (slot_at self.old into) }
         ensures ok { OnOk result ((s : Slot) → slot_at self.old into ≡ Some s → self.new ≡ set_value (is_at (nat_cmp into)) self.old (record s { children = placed before.now id s.children })) }
         ensures err { OnErr result (self.new ≡ self.old) }
@@ -111,11 +106,7 @@ impl Slots {
 }
 
 /// Puts an id before another of a list, or at the end. At an error nothing changes.
-pub fn place_among(
-    ids: &mut Ids,
-    before: &Option<ObjId>,
-    id: ObjId,
-) -> Result<(), NoMemory>
+pub fn place_among(ids: &mut Ids, before: &Option<ObjId>, id: ObjId) -> Result<(), NoMemory>
     ensures ok { OnOk result (ids.new ≡ placed before.now id ids.old) }
     ensures err { OnErr result (ids.new ≡ ids.old) }
 {
