@@ -6,3 +6,5 @@ pub mod CutCharacters
 pub mod Flattening
 pub mod KidsLaws
 pub mod Written
+pub mod Lookups
+pub mod Repeats
