@@ -9,6 +9,9 @@ mod sides;
 mod streams;
 mod transfers;
 
+#[cfg(test)]
+mod tests;
+
 pub use lists::{Bytes, Numbers};
 pub use memory::{MemSink, MemSource, SureSource};
 pub use outside::{Failed, Sink, Source};
