@@ -1,47 +1,31 @@
 -- What reads and writes come to, one after another.
-use Rattle.std.proofs.Common.{◌≡◌, ℕ, ◌+◌, ◌-◌, ◌≤◌, List, ◌++◌, length, take, drop, None, Some, sym, ap, ◌∙◌, subst, arith, append_assoc, append-nil, length-append, length-drop}
+use Rattle.std.proofs.Common.{◌≡◌, ℕ, ◌+◌, ◌-◌, ◌≤◌, List, ◌++◌, length, take, drop, None, Some, sym, ap, ◌∙◌, subst, arith, append_assoc, length-append, length-drop}
 use Rattle.std.proofs.lemmas.List.{take-append-drop}
-use Rattle.std.proofs.Math.Seq.{take-append_seam, take-append-add}
+use Rattle.std.proofs.Math.Seq.{take-append-add}
 use Rattle.std.proofs.lemmas.Grind.{common_steps}
 use Rattle.std.specs.declared.option.Option.{Option}
-use Rattle.std.specs.Io.KnownBytes.{Consumes, Appends, IsAtEnd}
-use Rattle.ax_edge.specs.Causes.{Rose}
+use Rattle.std.specs.Io.KnownBytes.{Consumes, Appends}
 use Rattle.std.specs.declared.result.Result.{Result}
 use Rattle.std.specs.Prelude.{OnErr, Ok, Err}
-use Rattle.ax_edge.specs.Transfers.{TakesInput, TakesFront}
+use Rattle.ax_edge.specs.Transfers.{TakesFront}
 
+-- what is taken in two reads
 pub taken_then : (a b c : Option (List ℕ)) (bs cs : List ℕ) → Consumes a b bs → Consumes b c cs → Consumes a c (bs ++ cs)
 taken_then None b c bs cs p q = tt
 taken_then (Some x) None c bs cs p q = absurd p
 taken_then (Some x) (Some y) None bs cs p q = absurd q
 taken_then (Some x) (Some y) (Some z) bs cs p q = p ∙ ap (λ l. bs ++ l) q ∙ sym (append_assoc bs cs z)
 
+-- what goes out in two writes
 pub out_then : (a b c : Option (List ℕ)) (bs cs : List ℕ) → Appends a b bs → Appends b c cs → Appends a c (bs ++ cs)
 out_then None b c bs cs p q = tt
 out_then (Some x) None c bs cs p q = absurd p
 out_then (Some x) (Some y) None bs cs p q = absurd q
 out_then (Some x) (Some y) (Some z) bs cs p q = q ∙ ap (λ l. l ++ cs) p ∙ append_assoc x bs cs
 
+-- the front of a list that is no longer than it
 take_whole : (xs : List ℕ) (n : ℕ) → length xs ≤ n → take n xs ≡ xs
 take_whole xs n h = grind (arith, common_steps)
-
--- the front that was read fills the input
-pub input_full : (most : ℕ) (a b : Option (List ℕ)) (input : List ℕ) → Consumes a b input → length input ≡ most → TakesInput most a b input
-input_full most None b input p e = record { is_all = tt; taken = tt; at_end = λ h. absurd (omega arith) }
-input_full most (Some x) None input p e = absurd p
-input_full most (Some x) (Some y) input p e = record {
-  is_all = sym (ap (take most) p ∙ ap (λ n. take n (input ++ y)) (sym e) ∙ take-append_seam input y);
-  taken = p;
-  at_end = λ h. absurd (omega arith);
-}
-
--- what was read is all
-pub input_ended : (most : ℕ) (a b : Option (List ℕ)) (input : List ℕ) → Consumes a b input → IsAtEnd b → length input ≤ most → TakesInput most a b input
-input_ended most None b input p e h = record { is_all = tt; taken = tt; at_end = λ _. e }
-input_ended most (Some x) None input p e h = absurd p
-input_ended most (Some x) (Some y) input p e h =
-    let whole : x ≡ input = p ∙ ap (λ l. input ++ l) e ∙ append-nil input in
-    record { is_all = sym (ap (take most) whole ∙ take_whole input most h); taken = p; at_end = λ _. e }
 
 -- a front that was taken, and what was taken after it
 pub front_then : (most : ℕ) (a b c : Option (List ℕ)) (bs cs : List ℕ) → Consumes a b bs → Consumes b c cs → length bs + length cs ≤ most → TakesFront most a c
@@ -58,10 +42,7 @@ take_then text at n h =
     let len : length (take at text) ≡ at = grind (arith, common_steps) in
     sym (ap (take (at + n)) (sym (take-append-drop at text)) ∙ ap (λ k. take (k + n) (take at text ++ drop at text)) (sym len) ∙ take-append-add (take at text) (drop at text) n)
 
--- the count rose since an earlier call
-pub rose_since : (a b c : ℕ) → a ≤ b → Rose b c → Rose a c
-rose_since a b c h r = omega arith
-
+-- the piece behind `at` is all that comes after it
 rest_of : (text : List ℕ) (at : ℕ) → take (length text - at) (drop at text) ≡ drop at text
 rest_of text at = take_whole (drop at text) (length text - at) (omega (arith, length-drop at text))
 
@@ -72,5 +53,6 @@ out_more a b c text at n h p q =
     let q' = subst (λ l. Appends b c (take n l)) (rest_of text at) q in
     subst (Appends a c) (take_then text at n h) (out_then a b c (take at text) (take n (drop at text)) p q')
 
+-- one more write stays within the text
 pub within_more : (text : List ℕ) (at n : ℕ) → at ≤ length text → n ≤ length (take (length text - at) (drop at text)) → at + n ≤ length text
 within_more text at n h p = let p' = subst (λ l. n ≤ length l) (rest_of text at) p in omega (arith, length-drop at text)

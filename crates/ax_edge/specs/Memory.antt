@@ -28,5 +28,6 @@ given_count left piece buf = min (min (length left) piece) (length buf)
 -- a write takes as much of the piece as there is room for; one that fails is counted, and all else stays
 abbrev pub TakesPiece : {E : Type 0} → Tray → Tray → Result ℕ E → List ℕ → Type 0
 TakesPiece old new result piece = MatchResult result
-    (λ n. (n ≡ min (length piece) old.room) × (new ≡ record { gone = old.gone ++ take n piece; room = old.room - n; faults = old.faults }))
+    (λ n. (n ≡ min (length piece) old.room)
+    × (new ≡ record { gone = old.gone ++ take n piece; room = old.room - n; faults = old.faults }))
     (λ _. new ≡ record { gone = old.gone; room = old.room; faults = one_more old.faults })

@@ -7,10 +7,9 @@ mod outside;
 mod scope;
 mod sides;
 mod streams;
-mod transfers;
-
 #[cfg(test)]
 mod tests;
+mod transfers;
 
 pub use lists::{Bytes, Numbers};
 pub use memory::{MemSink, MemSource, SureSource};

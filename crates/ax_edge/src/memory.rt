@@ -87,7 +87,13 @@ impl Model for MemSource {
 
     ghost Value = { Feed };
 
-    ghost view = { λ s. record { left = s.source.left; piece = s.source.piece; failing = s.failing; reads = s.reads; faults = s.faults } };
+    ghost view = { λ s. record {
+      left = s.source.left;
+      piece = s.source.piece;
+      failing = s.failing;
+      reads = s.reads;
+      faults = s.faults;
+    } };
 }
 
 impl MemSource {
@@ -95,7 +101,13 @@ impl MemSource {
     /// 1, are in `failing` fail.
     pub fn new(bytes: Bytes, piece: usize, failing: Numbers) -> MemSource
         requires { 1 ≤ piece }
-        ensures { result ≡ record { left = bytes; piece = piece; failing = failing; reads = 0; faults = 0 } }
+        ensures { result ≡ record {
+          left = bytes;
+          piece = piece;
+          failing = failing;
+          reads = 0;
+          faults = 0;
+        } }
     {
         MemSource {
             source: SureSource::new(bytes, piece),

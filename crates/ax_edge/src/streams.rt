@@ -31,7 +31,8 @@ impl<R: Read> Source for StdSource<R> {
 
     fn read(&mut self, buf: &mut [u8]) -> Result<usize, Failed>
         ensures bound { ReadsAtMost result buf.new }
-        ensures bytes { ReadConsumes (R.remaining self.old.reader) (R.remaining self.new.reader) result buf.new }
+        ensures bytes { ReadConsumes (R.remaining self.old.reader) (R.remaining self.new.reader)
+            result buf.new }
         ensures cause { HasCause self.old.faults self.new.faults result }
         ensures counts { CountsFault self.old.faults self.new.faults result }
     {
@@ -67,7 +68,8 @@ impl<W: Write> StdSink<W> {
 fn push<W: Write>(writer: &mut W, piece: &[u8]) -> Option<usize>
     ensures bound { IfSome result (λ n. n ≤ length piece.now) }
     ensures some { IfSome result (λ n. 0 < length piece.now → 0 < n) }
-    ensures bytes { IfSome result (λ n. Appends (W.contents writer.old) (W.contents writer.new) (take n piece.now)) }
+    ensures bytes { IfSome result (λ n.
+        Appends (W.contents writer.old) (W.contents writer.new) (take n piece.now)) }
 {
     let count = writer.write(piece).ok()?;
     if count == 0 && !piece.is_empty() {
@@ -87,7 +89,8 @@ impl<W: Write> Sink for StdSink<W> {
         ensures some { TakesSome result piece.now }
         ensures bytes { WriteAppends None None result piece.now }
         ensures cause { HasCause self.old.faults self.new.faults result }
-        ensures written { IfOk result (λ n. Appends (W.contents self.old.writer) (W.contents self.new.writer) (take n piece.now)) }
+        ensures written { IfOk result (λ n. Appends (W.contents self.old.writer)
+            (W.contents self.new.writer) (take n piece.now)) }
         ensures counts { CountsFault self.old.faults self.new.faults result }
     {
         match push(&mut self.writer, piece) {

@@ -66,7 +66,10 @@ fn std_source_reads_in_pieces(rt: HostRuntime) {
 #[test]
 fn std_sink_flushes_each_write(rt: HostRuntime) {
     let mut writer = Narrow::new(rt.alloc(), 9, 9);
-    assert_eq!(rt; write_whole(&mut StdSink::new(&mut writer), b"seven"), Ok(()));
+    assert_eq!(rt;
+        write_whole(&mut StdSink::new(&mut writer), b"seven"),
+        Ok(())
+    );
     assert_eq!(rt; writer.bytes.as_slice(), &b"seven"[..]);
     assert_eq!(rt; writer.flushes, 3);
 }
@@ -84,7 +87,10 @@ fn std_sink_fails_where_nothing_is_taken(rt: HostRuntime) {
 #[test]
 fn std_sink_fails_where_a_flush_fails(rt: HostRuntime) {
     let mut writer = Narrow::new(rt.alloc(), 9, 1);
-    assert_eq!(rt; write_whole(&mut StdSink::new(&mut writer), b"seven"), Err(Failed));
+    assert_eq!(rt;
+        write_whole(&mut StdSink::new(&mut writer), b"seven"),
+        Err(Failed)
+    );
     assert_eq!(rt; writer.bytes.as_slice(), &b"seve"[..]);
 }
 
@@ -151,7 +157,10 @@ impl Job for Doubles {
 #[test]
 fn scope_spawner_runs_both(rt: HostRuntime) {
     OpenGate.at(Who::Page, 1);
-    assert_eq!(rt; ScopeSpawner.pair(&rt, Doubles(3), Doubles(4)), Some((6, 8)));
+    assert_eq!(rt;
+        ScopeSpawner.pair(&rt, Doubles(3), Doubles(4)),
+        Some((6, 8))
+    );
 }
 
 #[test]

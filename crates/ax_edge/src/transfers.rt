@@ -35,11 +35,13 @@ pub fn read_input<I: Source>(
     source: &mut I,
     most: usize,
 ) -> Result<Vec<u8>, ReadError>
-    ensures input { IfOk result (λ input. TakesInput most (I.left source.old) (I.left source.new) input.items) }
+    ensures input { IfOk result (λ input.
+        TakesInput most (I.left source.old) (I.left source.new) input.items) }
     ensures within { IfOk result (λ input. length input.items ≤ most) }
     ensures err { OnErr result (TakesFront most (I.left source.old) (I.left source.new)) }
     ensures later { I.faults source.old ≤ I.faults source.new }
-    ensures failed { IsErrOf result ReadError.Failed → Rose (I.faults source.old) (I.faults source.new) }
+    ensures failed { IsErrOf result ReadError.Failed →
+        Rose (I.faults source.old) (I.faults source.new) }
 {
     let mut buf = room_for(alloc, CHUNK)?;
     let mut input = Vec::new(alloc);
@@ -67,11 +69,13 @@ fn fill<I: Source>(
 ) -> Result<(), ReadError>
     requires room { 0 < length buf.old }
     requires empty { input.old.items ≡ [] }
-    ensures input { OnOk result (TakesInput most (I.left source.old) (I.left source.new) input.new.items) }
+    ensures input { OnOk result (
+        TakesInput most (I.left source.old) (I.left source.new) input.new.items) }
     ensures within { OnOk result (length input.new.items ≤ most) }
     ensures err { OnErr result (TakesFront most (I.left source.old) (I.left source.new)) }
     ensures later { I.faults source.old ≤ I.faults source.new }
-    ensures failed { IsErrOf result ReadError.Failed → Rose (I.faults source.old) (I.faults source.new) }
+    ensures failed { IsErrOf result ReadError.Failed →
+        Rose (I.faults source.old) (I.faults source.new) }
 {
     'reading: while input.len() < most {
         let room = buf.len().min(most - input.len());
