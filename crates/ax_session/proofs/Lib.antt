@@ -1,0 +1,4 @@
+pub mod LineSteps
+pub mod Judging
+pub mod Complete
+pub mod Walk

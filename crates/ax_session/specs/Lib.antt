@@ -1,0 +1,5 @@
+pub mod Command
+pub mod Story
+pub mod Dump
+pub mod Refusals
+pub mod TopCall

@@ -1,0 +1,12 @@
+//! The commands of the accessibility core, from bytes to bytes.
+#![tactic(auto)]
+
+mod dump;
+mod refusals;
+mod story;
+mod top;
+mod words;
+
+pub use story::{AcceptFail, Cause, Refusal};
+pub use top::{axcore, still_command};
+pub use words::{Command, Status, command_of};

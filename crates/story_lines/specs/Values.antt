@@ -1,0 +1,91 @@
+-- What stands in a line: keys, whole numbers within bounds, tags and attributes.
+use Rattle.std.specs.Prelude.{ℕ, ◌^◌, ◌-◌, ◌&&◌, ◌||◌, ◌==◌, ℤ, pos, negsuc, List, [], ◌∷◌, length, codes, Bool, true, false, nat_le, if◌then◌else◌, Option, Some, None, option_map, option_and_then, bytes_eq}
+use Rattle.std.specs.Char.{is_ascii_lowercase, is_ascii_digit}
+use Rattle.std.specs.List.{list_any, list_all}
+use Rattle.std.specs.Option.{option_map_or}
+use Rattle.serde_json.specs.Data.{Data, Members, no_members, member}
+use Rattle.serde_json.specs.Find.{get, as_object, as_str, as_number, as_i64}
+use Rattle.ax_base.specs.Characters.{Chars}
+use Rattle.ax_base.specs.declared.attrs.Attr.{Attr}
+
+infixl 10 ◌>>=◌
+-- what comes of a value, where there is one
+abbrev pub ◌>>=◌ : {A B : Type 0} → Option A → (A → Option B) → Option B
+o >>= f = option_and_then f o
+
+-- each key is one of these
+abbrev pub only_keys : List Chars → Members → Bool
+only_keys allowed no_members = true
+only_keys allowed (member key value ms) = list_any (λ a. bytes_eq a key) allowed && only_keys allowed ms
+
+-- an object with no other keys than these
+abbrev pub has_only : List Chars → Data → Bool
+has_only allowed d = option_map_or (only_keys allowed) (as_object d) false
+
+-- a number within bounds
+abbrev pub between : ℕ → ℕ → ℤ → Option ℕ
+between low high (pos n) = if nat_le low n && nat_le n high then Some n else None
+between low high (negsuc n) = None
+
+-- a value that is a whole number within bounds: one that is written with a point or an exponent is none, and neither is `-0`
+abbrev pub whole : ℕ → ℕ → Data → Option ℕ
+whole low high d = as_number d >>= as_i64 >>= between low high
+
+-- the whole number at a key
+abbrev pub whole_at : Chars → ℕ → ℕ → Data → Option ℕ
+whole_at key low high d = get key d >>= whole low high
+
+-- the greatest id of a node
+abbrev pub max_id : ℕ
+max_id = 2 ^ 31 - 1
+
+-- the id of a node at a key
+abbrev pub id_at : Chars → Data → Option ℕ
+id_at key d = whole_at key 1 max_id d
+
+-- the id at a key that may be missing
+abbrev pub maybe_id : Option Data → Option (Option ℕ)
+maybe_id None = Some None
+maybe_id (Some d) = option_map Some (whole 1 max_id d)
+
+-- the first byte is a letter from `a` to `z`
+abbrev pub begins_with_letter : Chars → Bool
+begins_with_letter [] = false
+begins_with_letter (b ∷ bytes) = is_ascii_lowercase b
+
+-- `a` to `z`, a digit or `-`
+abbrev pub is_tag_byte : ℕ → Bool
+is_tag_byte b = is_ascii_lowercase b || is_ascii_digit b || b == 45
+
+-- one of these, or `_`, `:` or `.`
+abbrev pub is_name_byte : ℕ → Bool
+is_name_byte b = is_tag_byte b || b == 95 || b == 58 || b == 46
+
+-- the tag of an element: 1 to 32 bytes, the first a letter
+abbrev pub is_tag : Chars → Bool
+is_tag t = begins_with_letter t && nat_le (length t) 32 && list_all is_tag_byte t
+
+-- the name of an attribute: 1 to 64 bytes, the first a letter
+abbrev pub is_attribute_name : Chars → Bool
+is_attribute_name t = begins_with_letter t && nat_le (length t) 64 && list_all is_name_byte t
+
+-- the tag at the key `tag`
+abbrev pub tag_at : Data → Option Chars
+tag_at d = get (codes "tag") d >>= as_str >>= λ t. if is_tag t then Some t else None
+
+-- an attribute: its key is a name and its value a string
+abbrev pub attribute : Chars → Data → Option Attr
+attribute name value = as_str value >>= λ text. if is_attribute_name name then Some (record { name = name; value = text }) else None
+
+-- the attributes that members are, in their order
+abbrev pub attributes : Members → Option (List Attr)
+attributes no_members = Some []
+attributes (member name value ms) = do
+  attr ← attribute name value
+  attrs ← attributes ms
+  Some (attr ∷ attrs)
+
+-- the attributes that may be missing
+abbrev pub maybe_attributes : Option Data → Option (List Attr)
+maybe_attributes None = Some []
+maybe_attributes (Some d) = as_object d >>= attributes

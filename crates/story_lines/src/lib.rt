@@ -1,0 +1,12 @@
+//! Reading one line of a story.
+#![tactic(auto)]
+
+mod attributes;
+mod forms;
+mod keys;
+mod reading;
+#[cfg(test)]
+mod tests;
+mod values;
+
+pub use reading::{Line, LineFail, read_line};

@@ -1,0 +1,235 @@
+//! Lines with what they say.
+use crate::{Line, LineFail, read_line};
+use ax_base::ObjId;
+use ax_dom::Edit;
+use std::alloc::{AllocError, Global};
+use std::test::Fail;
+
+/// An id that may be missing, as 0.
+fn number_of(id: Option<ObjId>) -> u32 {
+    match id {
+        Some(id) => id.number(),
+        None => 0,
+    }
+}
+
+/// An edit in a few words.
+fn shown(alloc: Global, edit: &Edit) -> Result<String, AllocError> {
+    match edit {
+        Edit::InsertElement {
+            id,
+            into,
+            before,
+            tag,
+            attrs,
+        } => {
+            let mut out = format!(in alloc;
+                "insert {} {} {} {}",
+                id.number(),
+                into.number(),
+                number_of(*before),
+                tag.as_str()
+            )?;
+            for attr in attrs.as_slice() {
+                write!(out, " {}={}", attr.name.as_str(), attr.value.as_str())?;
+            }
+            Ok(out)
+        }
+    }
+}
+
+/// What a line says, in a few words.
+fn said(alloc: Global, line: &str) -> Result<String, AllocError> {
+    match read_line(alloc, line) {
+        Ok(None) => String::from_str(alloc, "blank"),
+        Ok(Some(Line::Change(edit))) => shown(alloc, &edit),
+        Ok(Some(Line::Start)) => String::from_str(alloc, "start"),
+        Err(LineFail::BadJson) => String::from_str(alloc, "bad json"),
+        Err(LineFail::BadLine) => String::from_str(alloc, "bad line"),
+        Err(LineFail::NoMemory) => String::from_str(alloc, "no memory"),
+    }
+}
+
+#[test]
+fn reads_lines(rt: HostRuntime) -> Result<(), Fail> {
+    for (line, want) in [
+        ("", "blank"),
+        (" \t\r", "blank"),
+        ("\u{b}", "bad json"),
+        ("{\"start\":1", "bad json"),
+        ("{\"start\":1} 1", "bad json"),
+        ("{\"start\":1e400}", "bad json"),
+        ("{\"text\":\"\\ud800\"}", "bad json"),
+        ("null", "bad line"),
+        ("[]", "bad line"),
+        ("{}", "bad line"),
+        ("{\"start\":1}", "start"),
+        (" {\"start\" : 1}\r", "start"),
+        ("{\"start\":2,\"start\":1}", "start"),
+        ("{\"start\":1,\"start\":2}", "bad line"),
+        ("{\"start\":true}", "bad line"),
+        ("{\"start\":1.0}", "bad line"),
+        ("{\"start\":1,\"flush\":true}", "bad line"),
+        ("{\"Start\":1}", "bad line"),
+    ] {
+        assert_eq!(rt; said(rt.alloc(), line)?.as_str(), want, "at {line}");
+    }
+    Ok(())
+}
+
+#[test]
+fn reads_inserts(rt: HostRuntime) -> Result<(), Fail> {
+    for (line, want) in [
+        ("{\"insert\":2,\"into\":1,\"tag\":\"p\"}", "insert 2 1 0 p"),
+        (
+            "{\"insert\":2147483647,\"into\":2147483647,\"before\":2147483647,\"tag\":\"h1\"}",
+            "insert 2147483647 2147483647 2147483647 h1",
+        ),
+        (
+            "{\"tag\":\"x-y\",\"before\":1,\"into\":1,\"insert\":1}",
+            "insert 1 1 1 x-y",
+        ),
+        (
+            "{\"insert\":2,\"insert\":3,\"into\":1,\"tag\":\"p\"}",
+            "insert 3 1 0 p",
+        ),
+        (
+            "{\"insert\":2147483648,\"into\":1,\"tag\":\"p\"}",
+            "bad line",
+        ),
+        (
+            "{\"insert\":2,\"into\":2147483648,\"tag\":\"p\"}",
+            "bad line",
+        ),
+        (
+            "{\"insert\":2,\"into\":1,\"before\":2147483648,\"tag\":\"p\"}",
+            "bad line",
+        ),
+        ("{\"insert\":0,\"into\":1,\"tag\":\"p\"}", "bad line"),
+        ("{\"insert\":2,\"into\":0,\"tag\":\"p\"}", "bad line"),
+        (
+            "{\"insert\":2,\"into\":1,\"before\":0,\"tag\":\"p\"}",
+            "bad line",
+        ),
+        ("{\"insert\":-0,\"into\":1,\"tag\":\"p\"}", "bad line"),
+        ("{\"insert\":-2,\"into\":1,\"tag\":\"p\"}", "bad line"),
+        ("{\"insert\":2.0,\"into\":1,\"tag\":\"p\"}", "bad line"),
+        ("{\"insert\":2e0,\"into\":1,\"tag\":\"p\"}", "bad line"),
+        (
+            "{\"insert\":18446744073709551618,\"into\":1,\"tag\":\"p\"}",
+            "bad line",
+        ),
+        ("{\"insert\":\"2\",\"into\":1,\"tag\":\"p\"}", "bad line"),
+        (
+            "{\"insert\":2,\"into\":1,\"before\":null,\"tag\":\"p\"}",
+            "bad line",
+        ),
+        ("{\"insert\":2,\"into\":1}", "bad line"),
+        ("{\"insert\":2,\"tag\":\"p\"}", "bad line"),
+        ("{\"into\":1,\"tag\":\"p\"}", "bad line"),
+        (
+            "{\"insert\":2,\"into\":1,\"tag\":\"p\",\"id\":1}",
+            "bad line",
+        ),
+    ] {
+        assert_eq!(rt; said(rt.alloc(), line)?.as_str(), want, "at {line}");
+    }
+    Ok(())
+}
+
+/// The line that inserts an element with this tag.
+fn with_tag(alloc: Global, tag: &str) -> Result<String, AllocError> {
+    format!(in alloc; "{{\"insert\":2,\"into\":1,\"tag\":{tag}}}")
+}
+
+/// The line that inserts an element with these attributes.
+fn with_attributes(alloc: Global, attrs: &str) -> Result<String, AllocError> {
+    format!(in alloc; "{{\"insert\":2,\"into\":1,\"tag\":\"p\",\"attrs\":{attrs}}}")
+}
+
+#[test]
+fn reads_tags(rt: HostRuntime) -> Result<(), Fail> {
+    for (tag, want) in [
+        (
+            "\"abcdefghijklmnopqrstuvwxyz-01239\"",
+            "insert 2 1 0 abcdefghijklmnopqrstuvwxyz-01239",
+        ),
+        ("\"abcdefghijklmnopqrstuvwxyz-012399\"", "bad line"),
+        ("\"\"", "bad line"),
+        ("\"1a\"", "bad line"),
+        ("\"-a\"", "bad line"),
+        ("\"Main\"", "bad line"),
+        ("\"maiN\"", "bad line"),
+        ("\"a_b\"", "bad line"),
+        ("\"\\u0061\"", "insert 2 1 0 a"),
+        ("\"\\u00e9\"", "bad line"),
+        ("null", "bad line"),
+    ] {
+        let line = with_tag(rt.alloc(), tag)?;
+        assert_eq!(rt;
+            said(rt.alloc(), line.as_str())?.as_str(),
+            want,
+            "at {line}"
+        );
+    }
+    Ok(())
+}
+
+#[test]
+fn reads_attributes(rt: HostRuntime) -> Result<(), Fail> {
+    let alloc = rt.alloc();
+    let longest = format!(in alloc; "{{\"a{:063}\":\"\"}}", 0)?;
+    let longer = format!(in alloc; "{{\"a{:064}\":\"\"}}", 0)?;
+    let longest_want = format!(in alloc; "insert 2 1 0 p a{:063}=", 0)?;
+    for (attrs, want) in [
+        ("{}", "insert 2 1 0 p"),
+        (
+            "{\"b\":\"1\",\"a_b:c.d-9\":\"\"}",
+            "insert 2 1 0 p a_b:c.d-9= b=1",
+        ),
+        (
+            "{\"a\":\"1\",\"b\":\"2\",\"a\":\"3\"}",
+            "insert 2 1 0 p a=3 b=2",
+        ),
+        ("{\"a\":\"1\",\"a\":2}", "bad line"),
+        ("{\"a\":2,\"a\":\"1\"}", "insert 2 1 0 p a=1"),
+        ("{\"a\":null}", "bad line"),
+        ("{\"\":\"1\"}", "bad line"),
+        ("{\"_a\":\"1\"}", "bad line"),
+        ("{\"aB\":\"1\"}", "bad line"),
+        ("{\"a b\":\"1\"}", "bad line"),
+        ("null", "bad line"),
+        ("[]", "bad line"),
+        (longest.as_str(), longest_want.as_str()),
+        (longer.as_str(), "bad line"),
+    ] {
+        let line = with_attributes(alloc, attrs)?;
+        assert_eq!(rt; said(alloc, line.as_str())?.as_str(), want, "at {line}");
+    }
+    Ok(())
+}
+
+/// Some arrays, each in the next.
+fn nested(alloc: Global, depth: usize) -> Result<String, AllocError> {
+    let mut out = String::new(alloc);
+    for _ in 0..depth {
+        out.push('[')?;
+    }
+    for _ in 0..depth {
+        out.push(']')?;
+    }
+    Ok(out)
+}
+
+#[test]
+fn reads_deep_lines(rt: HostRuntime) -> Result<(), Fail> {
+    for (depth, want) in [(127, "bad line"), (128, "bad json")] {
+        let line = nested(rt.alloc(), depth)?;
+        assert_eq!(rt;
+            said(rt.alloc(), line.as_str())?.as_str(),
+            want,
+            "at {depth}"
+        );
+    }
+    Ok(())
+}
