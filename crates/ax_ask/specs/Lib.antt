@@ -1,0 +1,5 @@
+pub mod Words
+pub mod Numbers
+pub mod StateWords
+pub mod Replies
+pub mod Transcripts

@@ -1,0 +1,20 @@
+//! Stories as plain data: their lines, the documents of their moments, and whether a line of one could wait for ever.
+#![tactic(auto)]
+
+ghost use Rattle.std.specs.Prelude.{◌≡◌, ℕ, ◌≤◌, List};
+ghost use Rattle.story_check.specs.declared.story.PageLine.{PageLine};
+ghost use Rattle.story_check.specs.Stories.{flushes, cap};
+
+mod story;
+mod waits;
+
+pub use story::{ClientLine, PageLine, Story, close};
+pub use waits::stuck;
+
+/// More takes let the page publish no less, and never more than all its flushes.
+///
+/// It is a law of the definitions, which this call carries.
+pub fn takes_help()
+    ensures rises { (page : List PageLine) (t u : ℕ) → t ≤ u → cap page t ≤ cap page u }
+    ensures most { (page : List PageLine) (t : ℕ) → cap page t ≤ flushes page }
+{}

@@ -1,0 +1,144 @@
+//! The lines of a story.
+ghost use Rattle.std.specs.Prelude.{◌≡◌, ◌≤◌, ◌↔◌, length, IsSome, IfSome, IfOk};
+ghost use Rattle.story_check.specs.Stories.{flushes, closed};
+
+use ax_ask::Request;
+use ax_base::{Moment, NoMemory, Who};
+use ax_dom::Edit;
+use std::marker::Model;
+
+/// A line of the page.
+#[derive(Drop)]
+pub enum PageLine {
+    /// Edit the document.
+    Change(Edit),
+    /// Publish what has changed.
+    Flush,
+    /// Wait until the client has taken that moment.
+    Until(Moment),
+}
+
+/// A line of the client.
+#[derive(Drop)]
+pub enum ClientLine {
+    /// Take all that is published, and answer from there.
+    Ask(Request),
+    /// Answer from the moment that was taken last.
+    Again(Request),
+    /// Look how many moments are published, and take none.
+    Hear,
+    /// Wait until that moment is published, and take it.
+    Await(Moment),
+    /// Tell the notices since they were last told.
+    Notices,
+}
+
+/// A story: the edits before its start, the lines of each side, and the turns to play. Contracts see its parts as lists.
+#[derive(Drop)]
+pub struct Story {
+    base: Vec<Edit>,
+    page: Vec<PageLine>,
+    client: Vec<ClientLine>,
+    turns: Vec<Who>,
+    count: u32,
+}
+
+impl Model for Story {
+    ghost use Rattle.std.specs.Prelude.{◌≡◌, ◌≤◌, length};
+    ghost use Rattle.story_check.specs.Stories.{Script, flushes};
+
+    ghost Value = { Script };
+
+    ghost view = { λ s. record { base = s.base.items; page = s.page.items; client = s.client.items; turns = s.turns.items } };
+
+    ghost invariant = { λ s. (flushes s.page.items ≡ s.count) × (flushes s.page.items ≤ 65537) × (length s.client.items ≤ 16384) };
+}
+
+impl Story {
+    /// A story of these parts, or `None` where it has too many flushes or lines of the client.
+    pub fn new(
+        base: Vec<Edit>,
+        page: Vec<PageLine>,
+        client: Vec<ClientLine>,
+        turns: Vec<Who>,
+    ) -> Option<Story>
+        ensures few { IsSome result ↔ ((flushes page.items ≤ 65537) × (length client.items ≤ 16384)) }
+        ensures value { IfSome result (λ s. s ≡ record { base = base.items; page = page.items; client = client.items; turns = turns.items }) }
+    {
+        if client.len() > 16384 {
+            return None;
+        }
+        let mut count = 0;
+        for line in page.iter() {
+            if let PageLine::Flush = line {
+                if count == 65537 {
+                    return None;
+                }
+                count += 1;
+            }
+        }
+        Some(Story {
+            base,
+            page,
+            client,
+            turns,
+            count,
+        })
+    }
+
+    /// The edits before the start.
+    pub fn base(&self) -> &[Edit]
+        ensures { result.now ≡ self.now.base }
+    {
+        self.base.as_slice()
+    }
+
+    /// The lines of the page.
+    pub fn page(&self) -> &[PageLine]
+        ensures is { result.now ≡ self.now.page }
+        ensures most { flushes self.now.page ≤ 65537 }
+    {
+        self.page.as_slice()
+    }
+
+    /// The lines of the client.
+    pub fn client(&self) -> &[ClientLine]
+        ensures is { result.now ≡ self.now.client }
+        ensures most { length self.now.client ≤ 16384 }
+    {
+        self.client.as_slice()
+    }
+
+    /// The turns to play first.
+    pub fn turns(&self) -> &[Who]
+        ensures { result.now ≡ self.now.turns }
+    {
+        self.turns.as_slice()
+    }
+
+    /// The number of flushes of the page.
+    pub fn flushes(&self) -> u32
+        ensures is { result ≡ flushes self.now.page }
+        ensures most { flushes self.now.page ≤ 65537 }
+    {
+        self.count
+    }
+}
+
+/// The lines of the page with their closing flush: one flush more where an edit stands after the last flush.
+pub fn close(mut page: Vec<PageLine>) -> Result<Vec<PageLine>, NoMemory>
+    ensures { IfOk result (λ p. p.items ≡ closed page.items) }
+{
+    let mut open = false;
+    for line in page.iter() {
+        match line {
+            PageLine::Change(_) => open = true,
+            PageLine::Flush => open = false,
+            PageLine::Until(_) => {}
+        }
+    }
+    if open {
+        page.push(PageLine::Flush)?;
+    }
+    Ok(page)
+}
