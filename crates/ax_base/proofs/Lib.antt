@@ -6,3 +6,4 @@ pub mod CutCharacters
 pub mod Flattening
 pub mod Lookups
 pub mod Repeats
+pub mod Shapes
