@@ -8,3 +8,4 @@ pub mod KidsLaws
 pub mod Written
 pub mod Lookups
 pub mod Repeats
+pub mod Shapes

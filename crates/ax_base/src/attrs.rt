@@ -1,6 +1,7 @@
 //! The attributes of an element.
-ghost use Rattle.std.specs.Prelude.{◌≡◌, ◌++◌, ◌∷◌, IfOk, OnOk, OnErr, None, [], option_copied};
-ghost use Rattle.ax_base.specs.Attributes.{value_of, HasDistinctNames};
+ghost use Rattle.std.specs.Prelude.{◌≡◌, ◌++◌, ◌∷◌, IfOk, OnOk, OnErr, None, [], bytes_eq, option_copied};
+ghost use Rattle.std.specs.List.{position};
+ghost use Rattle.ax_base.specs.Attributes.{value_of, with_value, without_name, HasDistinctNames};
 
 use crate::{NoMemory, Text};
 use std::alloc::Global;
@@ -84,6 +85,40 @@ impl Attrs {
     {
         self.items.push(attr)?;
         Ok(())
+    }
+
+    /// Gives an attribute a value, in the place of the one that it has or at the end. At an error nothing changes.
+    pub fn set(&mut self, alloc: Global, name: &Text, value: Text) -> Result<(), NoMemory>
+        ensures ok { OnOk result (self.new ≡ with_value name.now value self.old) }
+        ensures err { OnErr result (self.new ≡ self.old) }
+    {
+        match self.place_of(name) {
+            Some(place) => {
+                self.items[place].value = value;
+                Ok(())
+            }
+            None => self.push(Attr {
+                name: name.copy(alloc)?,
+                value,
+            }),
+        }
+    }
+
+    /// Takes an attribute away. Where there is none of that name nothing changes.
+    pub fn unset(&mut self, name: &Text)
+        ensures { self.new ≡ without_name name.now self.old }
+    {
+        if let Some(place) = self.place_of(name) {
+            self.items.remove(place);
+        }
+    }
+
+    /// The place of the attribute of a name.
+    fn place_of(&self, name: &Text) -> Option<usize>
+        ensures place { result ≡ position (λ a. bytes_eq a.name name.now) self.now }
+        ensures distinct { HasDistinctNames self.now }
+    {
+        self.items.iter().position(|attr| attr.name.is(name.as_str()))
     }
 
     /// Equal attributes.

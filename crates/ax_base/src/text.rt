@@ -1,6 +1,7 @@
 //! Texts.
 ghost use Rattle.std.specs.Prelude.{◌≡◌, ℕ, ◌++◌, List, [], length, bytes_eq, ◌==◌, IfOk, OnOk, OnErr};
 ghost use Rattle.std.specs.String.{string_bytes};
+ghost use Rattle.std.specs.Str.{chars};
 ghost use Rattle.ax_base.specs.Characters.{is_blank, cut};
 
 use crate::NoMemory;
@@ -81,6 +82,13 @@ impl Text {
         ensures { result ≡ (length self.now == 0) }
     {
         self.string.as_str().is_empty()
+    }
+
+    /// How many characters it has.
+    pub fn count(&self) -> usize
+        ensures { result ≡ length (chars self.now) }
+    {
+        self.string.as_str().chars().count()
     }
 
     /// Adds characters at the end. At an error nothing changes.

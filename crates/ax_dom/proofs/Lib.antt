@@ -4,3 +4,4 @@ pub mod Inserts
 pub mod Entries
 pub mod Inserted
 pub mod Fresh
+pub mod Amended

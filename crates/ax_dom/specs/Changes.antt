@@ -5,12 +5,13 @@ use Rattle.std.specs.Map.{set_value}
 use Rattle.std.specs.BTreeMap.{is_at, insert_entry}
 use Rattle.std.specs.BTreeSet.{insert_key}
 use Rattle.ax_base.specs.declared.body.Body.{Body}
-use Rattle.ax_base.specs.declared.body.Body.TheVariants.{Element}
+use Rattle.ax_base.specs.declared.body.Body.TheVariants.{Element, Words}
 use Rattle.ax_base.specs.declared.rect.Rect.{Rect}
 use Rattle.ax_base.specs.Document.{Document, Node, root, body, children}
 use Rattle.ax_dom.specs.declared.edit.Edit.{Edit}
-use Rattle.ax_dom.specs.declared.edit.Edit.TheVariants.{InsertElement}
+use Rattle.ax_dom.specs.declared.edit.Edit.TheVariants.{InsertElement, InsertText, Chars, Set}
 use Rattle.ax_dom.specs.Places.{placed}
+use Rattle.ax_dom.specs.Bodies.{with_chars, with_attr}
 
 -- the nodes with other children of n
 abbrev pub with_children : Document → ℕ → List ℕ → List (ℕ × Node)
@@ -24,6 +25,10 @@ inserted d id into before b = record {
   used = insert_key nat_cmp d.used id;
 }
 
+-- another body of a node, in its place
+abbrev pub with_body : Document → ℕ → Body → Document
+with_body d n b = record d { nodes = set_value (is_at (nat_cmp n)) d.nodes (record { body = b; children = children d n }) }
+
 -- the frame of a new element
 abbrev pub no_frame : Rect
 no_frame = record { x = pos 0; y = pos 0; w = pos 0; h = pos 0 }
@@ -31,6 +36,9 @@ no_frame = record { x = pos 0; y = pos 0; w = pos 0; h = pos 0 }
 -- the document after an edit that nothing refuses
 abbrev pub edited : Document → Edit → Document
 edited d (InsertElement id into before tag attrs) = inserted d id into before (Element tag attrs no_frame)
+edited d (InsertText id into before chars) = inserted d id into before (Words chars [])
+edited d (Chars id chars) = with_body d id (with_chars chars (body d id))
+edited d (Set id name value) = with_body d id (with_attr name value (body d id))
 
 -- the root alone (HTML, section 4.1.1: the html element)
 abbrev pub new_document : Document

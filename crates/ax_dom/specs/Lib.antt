@@ -1,5 +1,6 @@
 pub mod Places
 pub mod Used
 pub mod Slots
+pub mod Bodies
 pub mod Changes
 pub mod Refusals

@@ -1,12 +1,14 @@
 -- Why an edit is refused.
 use Rattle.std.specs.Prelude.{◌≡◌, ◌≢◌, ◌<◌, ℕ, Bool, true, false, not, ◌||◌, ◌+◌, nat_eq, nat_lt, nat_le, length, ◌==◌, if◌then◌else◌, List, [], ◌∷◌, Option, Some, None}
 use Rattle.std.specs.List.{list_any}
+use Rattle.std.specs.Str.{chars}
+use Rattle.ax_base.specs.Characters.{Chars}
 use Rattle.ax_base.specs.declared.attrs.Attr.{Attr}
 use Rattle.ax_base.specs.Document.{Document, root, has, depth, body, children, is_text}
 use Rattle.ax_dom.specs.declared.cause.EditCause.{EditCause}
-use Rattle.ax_dom.specs.declared.cause.EditCause.TheVariants.{NoNode, UsedId, BadPlace, NotElement, TooDeep, TooMany, TooLong, NoMemory}
+use Rattle.ax_dom.specs.declared.cause.EditCause.TheVariants.{NoNode, UsedId, BadPlace, NotElement, NotText, TooDeep, TooMany, TooLong, NoMemory}
 use Rattle.ax_dom.specs.declared.edit.Edit.{Edit}
-use Rattle.ax_dom.specs.declared.edit.Edit.TheVariants.{InsertElement}
+use Rattle.ax_dom.specs.declared.edit.Edit.TheVariants.{InsertElement, InsertText, Chars as NewChars, Set}
 use Rattle.ax_dom.specs.Used.{is_used}
 
 -- no child to stand before is given, or it is a child of `into`
@@ -18,37 +20,67 @@ is_place d into (Some b) = list_any (nat_eq b) (children d into)
 abbrev pub is_taken : Document → ℕ → Bool
 is_taken d n = n == root || is_used d n
 
--- whether some attribute has a value of more than 4,096 bytes
+-- whether an attribute value has more than 4,096 bytes
+abbrev pub is_long_value : Chars → Bool
+is_long_value value = nat_lt 4096 (length value)
+
+-- whether some attribute has such a value
 abbrev pub has_long_value : List Attr → Bool
-has_long_value attrs = list_any (λ a. nat_lt 4096 (length a.value)) attrs
+has_long_value attrs = list_any (λ a. is_long_value a.value) attrs
+
+-- whether a text has more than 65,536 characters
+abbrev pub is_long_text : Chars → Bool
+is_long_text t = nat_lt 65536 (length (chars t))
 
 -- the document lacks a node that the edit names, an insert's own id aside
 abbrev pub lacks_node : Document → Edit → Bool
 lacks_node d (InsertElement id into before tag attrs) = not (has d into)
+lacks_node d (InsertText id into before new) = not (has d into)
+lacks_node d (NewChars id new) = not (has d id)
+lacks_node d (Set id name value) = not (has d id)
 
 -- an insert's id is the root's or was inserted before
 abbrev pub reuses_id : Document → Edit → Bool
 reuses_id d (InsertElement id into before tag attrs) = is_taken d id
+reuses_id d (InsertText id into before new) = is_taken d id
+reuses_id d _ = false
 
 -- a child to stand before is given, and is no child of `into`
 abbrev pub lacks_place : Document → Edit → Bool
 lacks_place d (InsertElement id into before tag attrs) = not (is_place d into before)
+lacks_place d (InsertText id into before new) = not (is_place d into before)
+lacks_place d _ = false
 
 -- an element is wanted, and the node is a text
 abbrev pub wants_element : Document → Edit → Bool
 wants_element d (InsertElement id into before tag attrs) = is_text (body d into)
+wants_element d (InsertText id into before new) = is_text (body d into)
+wants_element d (Set id name value) = is_text (body d id)
+wants_element d _ = false
+
+-- a text is wanted, and the node is an element
+abbrev pub wants_text : Document → Edit → Bool
+wants_text d (NewChars id new) = not (is_text (body d id))
+wants_text d _ = false
 
 -- some node would have a depth over 64
 abbrev pub goes_too_deep : Document → Edit → Bool
 goes_too_deep d (InsertElement id into before tag attrs) = nat_lt 64 (depth d into + 1)
+goes_too_deep d (InsertText id into before new) = nat_lt 64 (depth d into + 1)
+goes_too_deep d _ = false
 
 -- 65,536 nodes were inserted before
 abbrev pub is_one_too_many : Document → Edit → Bool
 is_one_too_many d (InsertElement id into before tag attrs) = nat_le 65536 (length d.used)
+is_one_too_many d (InsertText id into before new) = nat_le 65536 (length d.used)
+is_one_too_many d _ = false
 
--- an attribute value has more than 4,096 bytes
+-- an attribute value has more than 4,096 bytes, or a text more than 65,536 characters
 abbrev pub is_too_long : Edit → Bool
 is_too_long (InsertElement id into before tag attrs) = has_long_value attrs
+is_too_long (InsertText id into before new) = is_long_text new
+is_too_long (NewChars id new) = is_long_text new
+is_too_long (Set id name value) = is_long_value value
 
 -- the first cause whose condition holds
 abbrev pub first_cause : List (Bool × EditCause) → Option EditCause
@@ -62,6 +94,7 @@ edit_cause d e = first_cause (
     ∷ (reuses_id d e, UsedId)
     ∷ (lacks_place d e, BadPlace)
     ∷ (wants_element d e, NotElement)
+    ∷ (wants_text d e, NotText)
     ∷ (goes_too_deep d e, TooDeep)
     ∷ (is_one_too_many d e, TooMany)
     ∷ (is_too_long e, TooLong)

@@ -12,4 +12,22 @@ pub enum Edit {
         tag: Text,
         attrs: Attrs,
     },
+    /// A new text, before the child `before` of `into`, or as its last child. It has no runs.
+    InsertText {
+        id: ObjId,
+        into: ObjId,
+        before: Option<ObjId>,
+        chars: Text,
+    },
+    /// Other characters of a text. Its runs are taken away.
+    Chars {
+        id: ObjId,
+        chars: Text,
+    },
+    /// A value of an attribute, in the place of the one that it has, or at the end.
+    Set {
+        id: ObjId,
+        name: Text,
+        value: Text,
+    },
 }

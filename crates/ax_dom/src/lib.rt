@@ -1,6 +1,7 @@
 //! The document: a tree of elements and texts, the edits of it, and its readers.
 #![tactic(auto)]
 
+mod bodies;
 mod cause;
 mod cell;
 mod dom;

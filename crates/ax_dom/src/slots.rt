@@ -6,9 +6,12 @@ ghost use Rattle.std.specs.BTreeMap.{is_at, insert_entry};
 ghost use Rattle.std.specs.Map.{remove_entry, set_value};
 ghost use Rattle.ax_dom.specs.declared.cell.Slot.{Slot};
 ghost use Rattle.ax_dom.specs.Slots.{slot_at};
+ghost use Rattle.ax_dom.specs.Bodies.{slot_after};
 ghost use Rattle.ax_dom.specs.Places.{placed, placed_before};
 
+use crate::bodies::amend_body;
 use crate::cell::Slot;
+use crate::edit::Edit;
 use ax_base::{Ids, NoMemory, ObjId};
 use std::alloc::Global;
 use std::collections::BTreeMap;
@@ -100,6 +103,18 @@ impl Slots {
     {
         if let Some(slot) = self.map.get_mut(&into.0) {
             place_among(&mut slot.children, before, id)?;
+        }
+        Ok(())
+    }
+
+    /// Does an edit that changes a node alone. At an error nothing changes.
+    pub fn amend(&mut self, alloc: Global, id: ObjId, e: &Edit) -> Result<(), NoMemory>
+        requires { IsSome (slot_at self.old id) }
+        ensures ok { OnOk result ((s : Slot) → slot_at self.old id ≡ Some s → self.new ≡ set_value (is_at (nat_cmp id)) self.old (slot_after e.now s)) }
+        ensures err { OnErr result (self.new ≡ self.old) }
+    {
+        if let Some(slot) = self.map.get_mut(&id.0) {
+            amend_body(alloc, &mut slot.cell.body, e)?;
         }
         Ok(())
     }

@@ -29,7 +29,32 @@ fn inserts_elements(rt: HostRuntime) -> Result<(), Fail> {
         Err(EditCause::BadPlace)
     );
     assert_eq!(rt; dom.focus(), None);
+    change_texts(&rt, alloc, &mut dom)?;
     read::<Brand>(&rt, &dom, Blank::new(1));
+    Ok(())
+}
+
+/// A text below 7, and an attribute of 9.
+fn change_texts(rt: &impl Abort, alloc: Global, dom: &mut Dom) -> Result<(), Fail> {
+    let text = Edit::InsertText {
+        id: ObjId(6),
+        into: ObjId(7),
+        before: None,
+        chars: Text::from_str(alloc, "one")?,
+    };
+    let other = Edit::Chars {
+        id: ObjId(6),
+        chars: Text::from_str(alloc, "two")?,
+    };
+    let hidden = Edit::Set {
+        id: ObjId(9),
+        name: Text::from_str(alloc, "hidden")?,
+        value: Text::new(alloc),
+    };
+    assert_eq!(rt; dom.apply(alloc, &other), Err(EditCause::NoNode));
+    dom.apply(alloc, &text)?;
+    dom.apply(alloc, &other)?;
+    dom.apply(alloc, &hidden)?;
     Ok(())
 }
 
@@ -57,6 +82,21 @@ fn read<L: Ledger>(rt: &impl Abort, dom: &Dom, blank: Blank)
     assert_eq!(rt; dom.parent(ObjId(1), &mut steps), None);
     assert_eq!(rt; depth(dom.cell(ObjId(7), &mut steps)), Some(2));
     assert_eq!(rt; depth(dom.cell(ObjId(8), &mut steps)), None);
+    assert!(rt; is_said(dom.cell(ObjId(6), &mut steps), "two"));
+    assert!(rt; is_said(dom.cell(ObjId(9), &mut steps), "p hidden"));
+}
+
+/// Whether a node is this text, or an element with this tag and attribute.
+fn is_said(cell: Option<&Cell>, said: &str) -> bool {
+    let Some(cell) = cell else {
+        return false;
+    };
+    match &cell.body {
+        Body::Element { tag, attrs, .. } => tag.is("p")
+            && said == "p hidden"
+            && attrs.get("hidden").is_some(),
+        Body::Words { chars, .. } => chars.is(said),
+    }
 }
 
 /// How deep a paragraph is.

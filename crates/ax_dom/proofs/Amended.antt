@@ -1,0 +1,136 @@
+-- What an edit of one node comes to.
+use Rattle.std.proofs.Common.{◌≡◌, ℕ, List, [], Bool, true, false, cond, Option, Some, is_some, refl, sym, ap, subst, ◌∙◌}
+use Rattle.std.specs.Option.{option_map_or}
+use Rattle.std.specs.Ordering.{nat_cmp}
+use Rattle.std.specs.Map.{set_value}
+use Rattle.std.specs.BTreeMap.{is_at}
+use Rattle.std.proofs.lemmas.Map.{keys-set_value}
+use Rattle.std.proofs.lemmas.Option.{same_Some}
+use Rattle.ax_base.specs.declared.body.Body.{Body}
+use Rattle.ax_base.specs.declared.body.Body.TheVariants.{Element, Words}
+use Rattle.ax_base.specs.Document.{Document, Node, node, has, children, body, is_text}
+use Rattle.ax_base.proofs.Lookups.{finds, finds_same, found_is, lookup-set_value_at}
+use Rattle.ax_base.proofs.Shapes.{HasShapeOf, parent_same, depth_same, tree_same}
+use Rattle.ax_dom.specs.declared.cell.Cell.{Cell}
+use Rattle.ax_dom.specs.declared.cell.Slot.{Slot}
+use Rattle.ax_dom.specs.declared.edit.Edit.{Edit}
+use Rattle.ax_dom.specs.declared.edit.Edit.TheVariants.{InsertElement, InsertText, Chars, Set}
+use Rattle.ax_dom.specs.Slots.{cell_of, slot_at, nodes_of, document_of, IsKept}
+use Rattle.ax_dom.specs.Bodies.{body_after, slot_after}
+use Rattle.ax_dom.specs.Changes.{with_body}
+use Rattle.ax_dom.proofs.Kept.{has_is, children_found}
+use Rattle.ax_dom.proofs.Entries.{nodes_of-set_value, the_slot}
+
+-- no edit makes a text of an element, or an element of a text
+pub kind_stays : (e : Edit) (b : Body) → is_text (body_after e b) ≡ is_text b
+kind_stays (InsertElement id into before tag attrs) b = refl
+kind_stays (InsertText id into before chars) b = refl
+kind_stays (Chars id chars) (Element tag attrs frame) = refl
+kind_stays (Chars id chars) (Words old runs) = refl
+kind_stays (Set id name value) (Element tag attrs frame) = refl
+kind_stays (Set id name value) (Words chars runs) = refl
+
+-- another body of the same kind keeps the shape
+module _ (d : Document) (n : ℕ) (b : Body) (there : has d n ≡ true) (kind : is_text b ≡ is_text (body d n)) where
+  abbrev e : Document
+  e = with_body d n b
+
+  node_is : (q : ℕ) → node e q ≡ cond (finds n q) (Some (record { body = b; children = children d n })) (node d q)
+  node_is q = lookup-set_value_at q n (record { body = b; children = children d n }) d.nodes there
+
+  pub shape_amended : HasShapeOf d e
+  shape_amended = record {
+    ids_same = keys-set_value (is_at (nat_cmp n)) d.nodes (record { body = b; children = children d n });
+    has_same = λ q. ap is_some (node_is q) ∙ go_has q (finds n q) refl;
+    children_same = λ q. ap (λ o. option_map_or (λ (x : Node). x.children) o []) (node_is q) ∙ go_children q (finds n q) refl;
+    text_same = λ q. ap (λ o. is_text (option_map_or (λ (x : Node). x.body) o (Words [] []))) (node_is q) ∙ go_text q (finds n q) refl;
+  }
+    where
+      go_has : (q : ℕ) (x : Bool) → finds n q ≡ x → is_some (cond x (Some (record { body = b; children = children d n })) (node d q)) ≡ has d q
+      go_has q true same = sym (ap (has d) (sym (found_is n q same)) ∙ there)
+      go_has q false apart = refl
+
+      go_children : (q : ℕ) (x : Bool) → finds n q ≡ x → option_map_or (λ (x : Node). x.children) (cond x (Some (record { body = b; children = children d n })) (node d q)) [] ≡ children d q
+      go_children q true same = ap (children d) (found_is n q same)
+      go_children q false apart = refl
+
+      go_text : (q : ℕ) (x : Bool) → finds n q ≡ x → is_text (option_map_or (λ (x : Node). x.body) (cond x (Some (record { body = b; children = children d n })) (node d q)) (Words [] [])) ≡ is_text (body d q)
+      go_text q true same = kind ∙ ap (λ m. is_text (body d m)) (found_is n q same)
+      go_text q false apart = refl
+
+  pub body_here : body e n ≡ b
+  body_here = ap (λ o. option_map_or (λ (x : Node). x.body) o (Words [] [])) (node_is n ∙ ap (λ x. cond x (Some (record { body = b; children = children d n })) (node d n)) (finds_same n n refl))
+
+  pub body_apart : (q : ℕ) → finds n q ≡ false → body e q ≡ body d q
+  body_apart q apart = ap (λ o. option_map_or (λ (x : Node). x.body) o (Words [] [])) (node_is q ∙ ap (λ x. cond x (Some (record { body = b; children = children d n })) (node d q)) apart)
+
+  pub cell_here : record (cell_of d n) { body = b } ≡ cell_of e n
+  unfolding shape_amended
+  cell_here = λ i. record { id = n; parent = sym (parent_same d e shape_amended n) i; depth = sym (depth_same d e shape_amended n) i; body = sym body_here i }
+
+  pub cell_apart : (q : ℕ) → finds n q ≡ false → cell_of d q ≡ cell_of e q
+  unfolding shape_amended
+  cell_apart q apart = λ i. record { id = q; parent = sym (parent_same d e shape_amended q) i; depth = sym (depth_same d e shape_amended q) i; body = sym (body_apart q apart) i }
+
+module _ (es : List (ℕ × Slot)) (focus : Option ℕ) (used : List ℕ) (kept : IsKept (document_of es focus used) es) (n : ℕ) (there : has (document_of es focus used) n ≡ true) (edit : Edit)
+    (fs : List (ℕ × Slot)) (changed : (s : Slot) → slot_at es n ≡ Some s → fs ≡ set_value (is_at (nat_cmp n)) es (slot_after edit s)) where
+  abbrev d : Document
+  d = document_of es focus used
+
+  slot_here : (s : Slot) × (slot_at es n ≡ Some s)
+  slot_here = the_slot (slot_at es n) (has_is es focus used d n refl ∙ there)
+
+  abbrev s : Slot
+  s = slot_here.0
+
+  abbrev b : Body
+  b = body_after edit (body d n)
+
+  abbrev after : Document
+  after = with_body d n b
+
+  body_was : s.cell.body ≡ body d n
+  body_was = ap (λ (x : Cell). x.body) (kept.cells n s slot_here.1)
+
+  entries_are : fs ≡ set_value (is_at (nat_cmp n)) es (slot_after edit s)
+  entries_are = changed s slot_here.1
+
+  document_is : document_of fs focus used ≡ after
+  document_is = λ i. record { nodes = nodes i; focus = focus; used = used }
+    where
+      nodes : nodes_of fs ≡ after.nodes
+      nodes =
+          ap nodes_of entries_are ∙ nodes_of-set_value (is_at (nat_cmp n)) es (slot_after edit s)
+          ∙ (λ i. set_value (is_at (nat_cmp n)) (nodes_of es) (record { body = body_after edit (body_was i); children = children_found es focus used d n refl s (sym slot_here.1) i }))
+
+  cells_are : (q : ℕ) (o : Slot) → slot_at fs q ≡ Some o → o.cell ≡ cell_of after q
+  cells_are q o found = go (finds n q) refl (sym (ap (λ x. slot_at x q) entries_are ∙ lookup-set_value_at q n (slot_after edit s) es (ap is_some slot_here.1)) ∙ found)
+    where
+      go : (x : Bool) → finds n q ≡ x → cond x (Some (slot_after edit s)) (slot_at es q) ≡ Some o → o.cell ≡ cell_of after q
+      go true same found =
+          ap (λ (x : Slot). x.cell) (sym (same_Some (slot_after edit s) o found))
+          ∙ ap (λ (c : Cell). record c { body = body_after edit c.body }) (kept.cells n s slot_here.1)
+          ∙ cell_here d n b there (kind_stays edit (body d n)) ∙ ap (cell_of after) (found_is n q same)
+      go false apart found = kept.cells q o found ∙ cell_apart d n b there (kind_stays edit (body d n)) q apart
+
+  kept_is : IsKept (document_of fs focus used) fs
+  kept_is = subst (λ x. IsKept x fs) (sym document_is) (record {
+    tree = tree_same d after (shape_amended d n b there (kind_stays edit (body d n))) kept.tree;
+    cells = cells_are;
+    marked = λ q has_q top. kept.marked q (sym ((shape_amended d n b there (kind_stays edit (body d n))).has_same q) ∙ has_q) top;
+  })
+
+-- the same, by what the code knows
+module _ (es : List (ℕ × Slot)) (focus : Option ℕ) (used : List ℕ) (kept : IsKept (document_of es focus used) es) (now : Document) (view : document_of es focus used ≡ now) (n : ℕ) (there : has now n ≡ true) where
+  pub amended_there : is_some (slot_at es n) ≡ true
+  amended_there = has_is es focus used now n view ∙ there
+
+  module _ (edit : Edit) (fs : List (ℕ × Slot)) (changed : (s : Slot) → slot_at es n ≡ Some s → fs ≡ set_value (is_at (nat_cmp n)) es (slot_after edit s)) where
+    there_here : has (document_of es focus used) n ≡ true
+    there_here = ap (λ d. has d n) view ∙ there
+
+    pub document_amended : document_of fs focus used ≡ with_body now n (body_after edit (body now n))
+    document_amended = document_is es focus used kept n there_here edit fs changed ∙ ap (λ d. with_body d n (body_after edit (body d n))) view
+
+    pub kept_amended : IsKept (document_of fs focus used) fs
+    kept_amended = kept_is es focus used kept n there_here edit fs changed

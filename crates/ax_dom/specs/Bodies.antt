@@ -1,0 +1,29 @@
+-- What an edit makes of the one node that it changes.
+use Rattle.std.specs.Prelude.{[]}
+use Rattle.ax_base.specs.declared.body.Body.{Body}
+use Rattle.ax_base.specs.declared.body.Body.TheVariants.{Element, Words}
+use Rattle.ax_base.specs.Characters.{Chars}
+use Rattle.ax_base.specs.Attributes.{with_value}
+use Rattle.ax_dom.specs.declared.cell.Slot.{Slot}
+use Rattle.ax_dom.specs.declared.edit.Edit.{Edit}
+use Rattle.ax_dom.specs.declared.edit.Edit.TheVariants.{Chars as NewChars, Set}
+
+-- a text with other characters, and no runs
+abbrev pub with_chars : Chars → Body → Body
+with_chars new (Words chars runs) = Words new []
+with_chars new (Element tag attrs frame) = Element tag attrs frame
+
+-- an element with a value of an attribute
+abbrev pub with_attr : Chars → Chars → Body → Body
+with_attr name value (Element tag attrs frame) = Element tag (with_value name value attrs) frame
+with_attr name value (Words chars runs) = Words chars runs
+
+-- the node after an edit that changes it alone
+abbrev pub body_after : Edit → Body → Body
+body_after (NewChars id new) b = with_chars new b
+body_after (Set id name value) b = with_attr name value b
+body_after _ b = b
+
+-- the slot after such an edit
+abbrev pub slot_after : Edit → Slot → Slot
+slot_after e s = record s { cell = record s.cell { body = body_after e s.cell.body } }

@@ -1,0 +1,91 @@
+//! What an edit makes of the document.
+ghost use Rattle.std.specs.Prelude.{◌≡◌, OnOk, OnErr, None, IsTrue};
+ghost use Rattle.ax_base.specs.Document.{has, body};
+ghost use Rattle.ax_dom.specs.Bodies.{body_after};
+ghost use Rattle.ax_dom.specs.Changes.{inserted, with_body, edited};
+ghost use Rattle.ax_dom.specs.Refusals.{MayInsert, edit_cause};
+
+use super::{Dom, NO_FRAME};
+use crate::cell::{Cell, Slot};
+use crate::edit::Edit;
+use ax_base::{Body, Ids, NoMemory, ObjId, Runs};
+use std::alloc::Global;
+
+impl Dom {
+    /// Does an edit that nothing refuses. At an error nothing changes.
+    pub(super) fn carry_out(&mut self, alloc: Global, e: &Edit) -> Result<(), NoMemory>
+        requires { edit_cause self.old e.now ≡ None }
+        ensures ok { OnOk result (self.new ≡ edited self.old e.now) }
+        ensures err { OnErr result (self.new ≡ self.old) }
+    {
+        match e {
+            Edit::InsertElement {
+                id,
+                into,
+                before,
+                tag,
+                attrs,
+            } => {
+                let body = Body::Element {
+                    tag: tag.copy(alloc)?,
+                    attrs: attrs.copy(alloc)?,
+                    frame: NO_FRAME,
+                };
+                self.insert(alloc, *id, *into, before, body)
+            }
+            Edit::InsertText {
+                id,
+                into,
+                before,
+                chars,
+            } => {
+                let body = Body::Words {
+                    chars: chars.copy(alloc)?,
+                    runs: Runs::new(alloc),
+                };
+                self.insert(alloc, *id, *into, before, body)
+            }
+            Edit::Chars { id, .. } | Edit::Set { id, .. } => self.amend(alloc, *id, e),
+        }
+    }
+
+    /// Inserts a node that nothing refuses. At an error nothing changes.
+    fn insert(
+        &mut self,
+        alloc: Global,
+        id: ObjId,
+        into: ObjId,
+        before: &Option<ObjId>,
+        body: Body,
+    ) -> Result<(), NoMemory>
+        requires { MayInsert self.old id into before.now }
+        ensures ok { OnOk result (self.new ≡ inserted self.old id into before.now body) }
+        ensures err { OnErr result (self.new ≡ self.old) }
+    {
+        let cell = Cell {
+            id,
+            parent: Some(into),
+            depth: self.depth_of(into) + 1,
+            body,
+        };
+        let children = Ids::new(alloc);
+        self.used.add(id)?;
+        match self.slots.hang(id, Slot { cell, children }, into, before) {
+            Ok(()) => Ok(()),
+            Err(e) => {
+                self.used.remove(id);
+                Err(e)
+            }
+        }
+    }
+
+    /// Does an edit that changes a node alone, and that nothing refuses. At an error nothing changes.
+    fn amend(&mut self, alloc: Global, id: ObjId, e: &Edit) -> Result<(), NoMemory>
+        requires { IsTrue (has self.old id) }
+        ensures ok { OnOk result (self.new ≡ with_body self.old id (body_after e.now (body self.old id))) }
+        ensures err { OnErr result (self.new ≡ self.old) }
+    {
+        self.slots.amend(alloc, id, e)?;
+        Ok(())
+    }
+}

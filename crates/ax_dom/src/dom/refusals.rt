@@ -1,0 +1,217 @@
+//! Why an edit is refused: one test for each cause.
+ghost use Rattle.std.specs.Prelude.{◌≡◌, ◌+◌, nat_eq, nat_lt, false};
+ghost use Rattle.std.specs.Option.{option_map_or};
+ghost use Rattle.ax_base.specs.Document.{has, body, depth, is_text};
+ghost use Rattle.ax_dom.specs.Refusals.{is_taken, is_place, lacks_node, reuses_id, lacks_place, wants_element, wants_text, goes_too_deep, is_one_too_many, is_too_long, is_long_value, has_long_value, is_long_text, edit_cause};
+
+use super::Dom;
+use crate::cause::EditCause;
+use crate::edit::Edit;
+use ax_base::{Attrs, Body, ObjId, Text};
+
+impl Dom {
+    /// Why an edit is refused, if it is.
+    pub(super) fn edit_cause(&self, e: &Edit) -> Option<EditCause>
+        ensures { result ≡ edit_cause self.now e.now }
+    {
+        if self.lacks_node(e) {
+            Some(EditCause::NoNode)
+        } else if self.reuses_id(e) {
+            Some(EditCause::UsedId)
+        } else if self.lacks_place(e) {
+            Some(EditCause::BadPlace)
+        } else if self.wants_element(e) {
+            Some(EditCause::NotElement)
+        } else if self.wants_text(e) {
+            Some(EditCause::NotText)
+        } else if self.goes_too_deep(e) {
+            Some(EditCause::TooDeep)
+        } else if self.is_one_too_many(e) {
+            Some(EditCause::TooMany)
+        } else if is_too_long(e) {
+            Some(EditCause::TooLong)
+        } else {
+            None
+        }
+    }
+
+    /// Whether the document lacks a node that the edit names.
+    fn lacks_node(&self, e: &Edit) -> bool
+        ensures { result ≡ lacks_node self.now e.now }
+    {
+        match e {
+            Edit::InsertElement { into, .. } | Edit::InsertText { into, .. } => !self.has(*into),
+            Edit::Chars { id, .. } | Edit::Set { id, .. } => !self.has(*id),
+        }
+    }
+
+    /// Whether an insert's id is the root's or was inserted before.
+    fn reuses_id(&self, e: &Edit) -> bool
+        ensures { result ≡ reuses_id self.now e.now }
+    {
+        match e {
+            Edit::InsertElement { id, .. } | Edit::InsertText { id, .. } => self.is_taken(*id),
+            _ => false,
+        }
+    }
+
+    /// Whether a child to stand before is given, and is no child of the parent.
+    fn lacks_place(&self, e: &Edit) -> bool
+        ensures { result ≡ lacks_place self.now e.now }
+    {
+        match e {
+            Edit::InsertElement { into, before, .. } | Edit::InsertText { into, before, .. } =>
+                !self.is_place(*into, before),
+            _ => false,
+        }
+    }
+
+    /// Whether an element is wanted, and the node is a text.
+    fn wants_element(&self, e: &Edit) -> bool
+        ensures { result ≡ wants_element self.now e.now }
+    {
+        match e {
+            Edit::InsertElement { into, .. } | Edit::InsertText { into, .. } => self.is_text(*into),
+            Edit::Set { id, .. } => self.is_text(*id),
+            _ => false,
+        }
+    }
+
+    /// Whether a text is wanted, and the node is an element.
+    fn wants_text(&self, e: &Edit) -> bool
+        ensures { result ≡ wants_text self.now e.now }
+    {
+        match e {
+            Edit::Chars { id, .. } => !self.is_text(*id),
+            _ => false,
+        }
+    }
+
+    /// Whether some node would have more than 64 ancestors.
+    fn goes_too_deep(&self, e: &Edit) -> bool
+        ensures { result ≡ goes_too_deep self.now e.now }
+    {
+        match e {
+            Edit::InsertElement { into, .. } | Edit::InsertText { into, .. } => self.is_deepest(
+                *into,
+            ),
+            _ => false,
+        }
+    }
+
+    /// Whether as many nodes were inserted as may ever be.
+    fn is_one_too_many(&self, e: &Edit) -> bool
+        ensures { result ≡ is_one_too_many self.now e.now }
+    {
+        match e {
+            Edit::InsertElement { .. } | Edit::InsertText { .. } => self.used.len() >= 65536,
+            _ => false,
+        }
+    }
+
+    /// Whether it has a node of that id.
+    fn has(&self, id: ObjId) -> bool
+        ensures { result ≡ has self.now id }
+    {
+        self.slots.has(id)
+    }
+
+    /// Whether an id is the root's or was ever inserted.
+    fn is_taken(&self, id: ObjId) -> bool
+        ensures { result ≡ is_taken self.now id }
+    {
+        id.number() == 1 || self.used.has(id)
+    }
+
+    /// Whether no child to stand before is given, or it is a child of the parent.
+    fn is_place(&self, into: ObjId, before: &Option<ObjId>) -> bool
+        ensures { result ≡ is_place self.now into before.now }
+    {
+        match before {
+            None => true,
+            Some(b) => is_same(self.parent_of(*b), into),
+        }
+    }
+
+    /// Whether a node is a text.
+    fn is_text(&self, id: ObjId) -> bool
+        ensures { result ≡ is_text (body self.now id) }
+    {
+        match self.slots.get(id) {
+            Some(slot) => is_text(&slot.cell.body),
+            None => true,
+        }
+    }
+
+    /// Whether a child of a node would have more than 64 ancestors.
+    fn is_deepest(&self, id: ObjId) -> bool
+        ensures { result ≡ nat_lt 64 (depth self.now id + 1) }
+    {
+        u32::from(self.depth_of(id)) + 1 > 64
+    }
+
+    /// How many ancestors a node has: none of an unknown id.
+    pub(super) fn depth_of(&self, id: ObjId) -> u8
+        ensures { result ≡ depth self.now id }
+    {
+        match self.slots.get(id) {
+            Some(slot) => slot.cell.depth,
+            None => 0,
+        }
+    }
+}
+
+/// Whether it is this id.
+fn is_same(o: Option<ObjId>, id: ObjId) -> bool
+    ensures { result ≡ option_map_or (nat_eq id) o false }
+{
+    match o {
+        None => false,
+        Some(n) => id.number() == n.number(),
+    }
+}
+
+/// Whether it is a text.
+fn is_text(body: &Body) -> bool
+    ensures { result ≡ is_text body.now }
+{
+    match body {
+        Body::Words { .. } => true,
+        Body::Element { .. } => false,
+    }
+}
+
+/// Whether an attribute value or a text is too long.
+fn is_too_long(e: &Edit) -> bool
+    ensures { result ≡ is_too_long e.now }
+{
+    match e {
+        Edit::InsertElement { attrs, .. } => has_long_value(attrs),
+        Edit::InsertText { chars, .. } | Edit::Chars { chars, .. } => is_long_text(chars),
+        Edit::Set { value, .. } => is_long_value(value),
+    }
+}
+
+/// Whether some attribute has a value of more than 4,096 bytes.
+fn has_long_value(attrs: &Attrs) -> bool
+    ensures { result ≡ has_long_value attrs.now }
+{
+    attrs
+        .as_slice()
+        .iter()
+        .any(|a| a.value.as_str().len() > 4096)
+}
+
+/// Whether an attribute value has more than 4,096 bytes.
+fn is_long_value(value: &Text) -> bool
+    ensures { result ≡ is_long_value value.now }
+{
+    value.as_str().len() > 4096
+}
+
+/// Whether a text has more than 65,536 characters.
+fn is_long_text(chars: &Text) -> bool
+    ensures { result ≡ is_long_text chars.now }
+{
+    chars.count() > 65536
+}
