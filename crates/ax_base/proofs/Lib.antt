@@ -4,5 +4,7 @@ pub mod Places
 pub mod AttributeNames
 pub mod CutCharacters
 pub mod Flattening
+pub mod Lookups
+pub mod Repeats
 pub mod KidsLaws
 pub mod Written

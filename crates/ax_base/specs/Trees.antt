@@ -1,7 +1,11 @@
 -- Documents that are trees.
-use Rattle.std.specs.Prelude.{◌≡◌, ◌≢◌, ◌<◌, ◌≤◌, ℕ, suc, true, false, [], length, get_or}
+use Rattle.std.specs.Prelude.{◌≡◌, ◌≢◌, ◌<◌, ◌≤◌, ℕ, suc, true, false, List, [], length, get_or}
 use Rattle.std.specs.List.Sorted.{IsStrictlyIncreasing}
 use Rattle.ax_base.specs.Document.{Document, root, has, ids, body, is_text, children, IsChild}
+
+-- nothing stands at two places of a list
+abbrev pub HasNoRepeats : List ℕ → Type 0
+HasNoRepeats xs = (i j : ℕ) → i < length xs → j < length xs → get_or xs i 0 ≡ get_or xs j 0 → i ≡ j
 
 -- Each node hangs on the root, in one place, at most 64 levels below it; texts have no children; ids rise.
 pub record IsTree (d : Document) : Type 0 where
@@ -16,6 +20,6 @@ pub record IsTree (d : Document) : Type 0 where
   pub one_parent : (m n c : ℕ) → IsChild d m c → IsChild d n c → m ≡ n
   pub hung : (n : ℕ) → has d n ≡ true → n ≢ root → (p : ℕ) × IsChild d p n
   -- no child stands twice
-  pub once : (n i j : ℕ) → i < length (children d n) → j < length (children d n) → get_or (children d n) i 0 ≡ get_or (children d n) j 0 → i ≡ j
+  pub once : (n : ℕ) → HasNoRepeats (children d n)
   pub bare : (n : ℕ) → is_text (body d n) ≡ true → children d n ≡ []
   pub rising : IsStrictlyIncreasing (ids d)

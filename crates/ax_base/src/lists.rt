@@ -1,5 +1,6 @@
 //! Small list types, which clauses see as lists.
-ghost use Rattle.std.specs.Prelude.{◌≡◌, IfOk, [], ◌++◌, ◌∷◌, OnOk, OnErr};
+ghost use Rattle.std.specs.Prelude.{◌≡◌, ◌<◌, ◌≤◌, length, IfOk, [], ◌++◌, ◌∷◌, OnOk, OnErr};
+ghost use Rattle.std.specs.List.{insert, remove};
 
 use crate::{NoMemory, ObjId, Run};
 use std::alloc::Global;
@@ -113,6 +114,24 @@ impl Ids {
     {
         self.items.push(id)?;
         Ok(())
+    }
+
+    /// Puts an id at a place, before what stands there. At an error nothing changes.
+    pub fn insert(&mut self, index: usize, id: ObjId) -> Result<(), NoMemory>
+        requires { index ≤ length self.old }
+        ensures ok { OnOk result (self.new ≡ insert self.old index id) }
+        ensures err { OnErr result (self.new ≡ self.old) }
+    {
+        self.items.insert(index, id)?;
+        Ok(())
+    }
+
+    /// Takes out the id at a place.
+    pub fn remove(&mut self, index: usize)
+        requires { index < length self.old }
+        ensures { self.new ≡ remove self.old index }
+    {
+        self.items.remove(index);
     }
 
     /// Equal ids.

@@ -1,0 +1,77 @@
+-- The root alone is a tree.
+use Rattle.std.proofs.Common.{◌≡◌, ℕ, List, [], ◌∷◌, Bool, true, false, cond, Some, None, is_some, Contains, refl, sym, ap, subst, ◌∙◌, arith}
+use Rattle.std.specs.Option.{option_map_or}
+use Rattle.std.specs.Ordering.{nat_cmp}
+use Rattle.std.specs.BTreeMap.{insert_entry}
+use Rattle.std.proofs.lemmas.Bool.{false≢true}
+use Rattle.std.proofs.lemmas.Option.{same_Some}
+use Rattle.ax_base.specs.declared.body.Body.{Body}
+use Rattle.ax_base.specs.Document.{Document, Node, has, root, children, is_text, IsChild}
+use Rattle.ax_base.specs.Trees.{IsTree}
+use Rattle.ax_base.proofs.Lookups.{finds, found_is}
+use Rattle.ax_base.proofs.Repeats.{no_repeats-nil}
+use Rattle.ax_base.specs.Trees.{HasNoRepeats}
+use Rattle.ax_dom.specs.declared.cell.Cell.{Cell}
+use Rattle.ax_dom.specs.declared.cell.Slot.{Slot}
+use Rattle.ax_dom.specs.Slots.{cell_of, document_of, IsKept}
+
+module _ (b : Body) (element : is_text b ≡ false) where
+  abbrev cell : Cell
+  cell = record { id = 1; parent = None; depth = 0; body = b }
+
+  abbrev es : List (ℕ × Slot)
+  es = (1, record { cell = cell; children = [] }) ∷ []
+
+  abbrev d : Document
+  d = document_of es None []
+
+  nothing_below : (n : ℕ) → children d n ≡ []
+  nothing_below n = go (finds n 1)
+    where
+      go : (x : Bool) → option_map_or (λ (e : Node). e.children) (cond x (Some (record { body = b; children = [] })) None) [] ≡ []
+      go true = refl
+      go false = refl
+
+  no_child : (n c : ℕ) → IsChild d n c → ⊥
+  no_child n c child = let inside : Contains [] c = subst (λ xs. Contains xs c) (nothing_below n) child in omega arith
+
+  only_root : (n : ℕ) → has d n ≡ true → n ≡ root
+  only_root n there = go (finds n 1) refl there
+    where
+      go : (x : Bool) → finds n 1 ≡ x → is_some {T = Node} (cond x (Some (record { body = b; children = [] })) None) ≡ true → n ≡ root
+      go true at there = found_is n 1 at
+      go false at there = absurd (false≢true there)
+
+  tree : IsTree d
+  tree = record {
+    level = λ _. 0;
+    has_root = refl;
+    root_level = refl;
+    root_element = element;
+    known = λ n c child. absurd (no_child n c child);
+    deeper = λ n c child. absurd (no_child n c child);
+    shallow = λ n. omega arith;
+    one_parent = λ m n c child other. absurd (no_child m c child);
+    hung = λ n there top. absurd (top (only_root n there));
+    once = λ n. subst HasNoRepeats (sym (nothing_below n)) no_repeats-nil;
+    bare = λ n text. nothing_below n;
+    rising = λ k low. absurd (omega arith);
+  }
+
+  root_kept : IsKept d es
+  root_kept = record {
+    tree = tree;
+    cells = λ n s there. at_root n s (finds n 1) refl there;
+    marked = λ n there top. absurd (top (only_root n there));
+  }
+    where
+      at_root : (n : ℕ) (s : Slot) (x : Bool) → finds n 1 ≡ x → cond x (Some (record { cell = cell; children = [] })) None ≡ Some s → s.cell ≡ cell_of d n
+      at_root n s true at there = let same : record { cell = cell; children = [] } ≡ s = same_Some _ s there in ap (λ (y : Slot). y.cell) (sym same) ∙ ap (cell_of d) (sym (found_is n 1 at))
+      at_root n s false at there = cc
+
+-- the same of the entries that one insert into an empty map leaves
+pub new_kept : (fs gs : List (ℕ × Slot)) (b : Body) (cs used : List ℕ) → is_text b ≡ false → fs ≡ insert_entry nat_cmp gs 1 (record { cell = record { id = 1; parent = None; depth = 0; body = b }; children = cs }) → gs ≡ [] → cs ≡ [] → used ≡ []
+    → IsKept (document_of fs None used) fs
+new_kept fs gs b cs used element added empty none unused =
+    let all : fs ≡ es b element = added ∙ (λ i. insert_entry nat_cmp (empty i) 1 (record { cell = record { id = 1; parent = None; depth = 0; body = b }; children = none i })) in
+    subst (λ u. IsKept (document_of fs None u) fs) (sym unused) (subst (λ x. IsKept (document_of x None []) x) (sym all) (root_kept b element))

@@ -1,0 +1,6 @@
+pub mod Placed
+pub mod Kept
+pub mod Inserts
+pub mod Entries
+pub mod Inserted
+pub mod Fresh

@@ -1,0 +1,5 @@
+pub mod Places
+pub mod Used
+pub mod Slots
+pub mod Changes
+pub mod Refusals

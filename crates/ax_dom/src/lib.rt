@@ -1,0 +1,18 @@
+//! The document: a tree of elements and texts, the edits of it, and its readers.
+#![tactic(auto)]
+
+mod cause;
+mod cell;
+mod dom;
+mod edit;
+mod slots;
+mod used;
+
+pub use ax_base::Body;
+pub use cause::EditCause;
+pub use cell::Cell;
+pub use dom::Dom;
+pub use edit::Edit;
+
+#[cfg(test)]
+mod tests;

@@ -1,0 +1,133 @@
+//! The nodes of the document by their ids.
+ghost use Rattle.std.specs.Prelude.{◌≡◌, ◌≤◌, ℕ, length, OnOk, OnErr, [], Some, None, IsSome, is_some, option_copied};
+ghost use Rattle.std.specs.List.{insert};
+ghost use Rattle.std.specs.Ordering.{nat_cmp};
+ghost use Rattle.std.specs.BTreeMap.{is_at, insert_entry};
+ghost use Rattle.std.specs.Map.{remove_entry, set_value};
+ghost use Rattle.ax_dom.specs.declared.cell.Slot.{Slot};
+ghost use Rattle.ax_dom.specs.Slots.{slot_at};
+ghost use Rattle.ax_dom.specs.Places.{placed, placed_before};
+
+use crate::cell::Slot;
+use ax_base::{Ids, NoMemory, ObjId};
+use std::alloc::Global;
+use std::collections::BTreeMap;
+use std::marker::Model;
+
+/// The nodes of the document by their ids. A clause sees them as a list by rising id.
+#[derive(Drop)]
+pub struct Slots {
+    map: BTreeMap<u32, Slot>,
+}
+
+impl Model for Slots {
+    ghost use Rattle.std.specs.Prelude.{List, ℕ};
+    ghost use Rattle.ax_dom.specs.declared.cell.Slot.{Slot};
+
+    ghost Value = { List (ℕ × Slot) };
+
+    ghost view = { λ a. a.map.entries };
+}
+
+impl Slots {
+    /// No nodes.
+    pub fn new(alloc: Global) -> Slots
+        ensures { result ≡ [] }
+    {
+        Slots {
+            map: BTreeMap::new(alloc),
+        }
+    }
+
+    /// The node of an id.
+    pub fn get(&self, id: ObjId) -> Option<&Slot>
+        ensures { option_copied result ≡ slot_at self.now id }
+    {
+        self.map.get(&id.0)
+    }
+
+    /// Whether there is a node of an id.
+    pub fn has(&self, id: ObjId) -> bool
+        ensures { result ≡ is_some (slot_at self.now id) }
+    {
+        self.map.contains_key(&id.0)
+    }
+
+    /// Adds a node. At an error nothing changes.
+    pub fn add(&mut self, id: ObjId, slot: Slot) -> Result<(), NoMemory>
+        ensures ok { OnOk result (self.new ≡ insert_entry nat_cmp self.old id slot) }
+        ensures err { OnErr result (self.new ≡ self.old) }
+    {
+        self.map.insert(id.0, slot)?;
+        Ok(())
+    }
+
+    /// Takes a node away.
+    pub fn remove(&mut self, id: ObjId)
+        ensures { self.new ≡ remove_entry (is_at (nat_cmp id)) self.old }
+    {
+        self.map.remove(&id.0);
+    }
+
+    /// Adds a node among the children of another. At an error nothing changes.
+    pub fn hang(
+        &mut self,
+        id: ObjId,
+        slot: Slot,
+        into: ObjId,
+        before: &Option<ObjId>,
+    ) -> Result<(), NoMemory>
+        requires known { IsSome (slot_at self.old into) }
+        requires fresh { slot_at self.old id ≡ None }
+        ensures ok { OnOk result ((s : Slot) → slot_at self.old into ≡ Some s → self.new ≡ set_value (is_at (nat_cmp into)) (insert_entry nat_cmp self.old id slot) (record s { children = placed before.now id s.children })) }
+        ensures err { OnErr result (self.new ≡ self.old) }
+    {
+        self.add(id, slot)?;
+        match self.place(into, before, id) {
+            Ok(()) => Ok(()),
+            Err(e) => {
+                self.remove(id);
+                Err(e)
+            }
+        }
+    }
+
+    /// Puts an id before another among the children of a node, or as the last one. At an error nothing changes.
+    pub fn place(&mut self, into: ObjId, before: &Option<ObjId>, id: ObjId) -> Result<(), NoMemory>
+        requires { IsSome (slot_at self.old into) }
+        ensures ok { OnOk result ((s : Slot) → slot_at self.old into ≡ Some s → self.new ≡ set_value (is_at (nat_cmp into)) self.old (record s { children = placed before.now id s.children })) }
+        ensures err { OnErr result (self.new ≡ self.old) }
+    {
+        if let Some(slot) = self.map.get_mut(&into.0) {
+            place_among(&mut slot.children, before, id)?;
+        }
+        Ok(())
+    }
+}
+
+/// Puts an id before another of a list, or at the end. At an error nothing changes.
+pub fn place_among(ids: &mut Ids, before: &Option<ObjId>, id: ObjId) -> Result<(), NoMemory>
+    ensures ok { OnOk result (ids.new ≡ placed before.now id ids.old) }
+    ensures err { OnErr result (ids.new ≡ ids.old) }
+{
+    match before {
+        None => ids.push(id),
+        Some(b) => {
+            let at = place_of(ids.as_slice(), *b);
+            ids.insert(at, id)
+        }
+    }
+}
+
+/// The place of the first of some ids that is `b`, or their number where none is.
+fn place_of(ids: &[ObjId], b: ObjId) -> usize
+    ensures within { result ≤ length ids.now }
+    ensures place { (id : ℕ) → insert ids.now result id ≡ placed_before b id ids.now }
+{
+    for (i, x) in ids.iter().enumerate() {
+        if x.0 == b.0 {
+            return i;
+        }
+    }
+    ids.len()
+}
