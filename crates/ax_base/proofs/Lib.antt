@@ -5,6 +5,9 @@ pub mod AttributeNames
 pub mod CutCharacters
 pub mod Flattening
 pub mod Lookups
+pub mod SameLookups
 pub mod Repeats
+pub mod Joins
 pub mod KidsLaws
+pub mod Objects
 pub mod Written

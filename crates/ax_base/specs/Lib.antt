@@ -8,3 +8,4 @@ pub mod Trees
 pub mod Roles
 pub mod Kids
 pub mod Names
+pub mod Texts
