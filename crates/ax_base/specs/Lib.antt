@@ -4,8 +4,8 @@ pub mod Quoting
 pub mod Attributes
 pub mod Recursion
 pub mod Document
+pub mod Texts
 pub mod Trees
 pub mod Roles
 pub mod Kids
 pub mod Names
-pub mod Texts

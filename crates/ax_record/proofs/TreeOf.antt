@@ -18,7 +18,7 @@ use Rattle.ax_base.specs.declared.body.Body.{Body}
 use Rattle.ax_base.specs.declared.body.Body.TheVariants.{Element, Words}
 use Rattle.ax_base.specs.Document.{Document, ids, root, body, lineage}
 use Rattle.ax_base.specs.Trees.{IsTree, HasNoRepeats}
-use Rattle.ax_base.specs.Texts.{IsFitting, HasFittingTexts}
+use Rattle.ax_base.specs.Texts.{IsFitting}
 use Rattle.ax_base.specs.Kids.{kids, objects}
 use Rattle.ax_base.proofs.Places.{find_none}
 use Rattle.ax_base.proofs.Lookups.{finds, found_is}
@@ -162,8 +162,8 @@ module _ (d : Document) (t : IsTree d) where
       go (Some x) found = has_is x ∙ found
 
   -- the tree of a document hangs together
-  pub tree_hangs : HasFittingTexts d → IsObjectTree (tree d)
-  tree_hangs short = record {
+  pub tree_hangs : IsObjectTree (tree d)
+  tree_hangs = record {
     level = t.level;
     deeper = λ n k kid. kids_deeper d t n k (kid_is n k kid).1;
     shallow = λ n. let s = t.shallow n in omega arith;
@@ -179,7 +179,7 @@ module _ (d : Document) (t : IsTree d) where
     parent = λ n k kid. parent_is k ∙ ap (λ b. cond b (holder d k) None) (is_one k (kids_are_objects d t n k (kid_is n k kid).0 (kid_is n k kid).1)) ∙ holder_is n k (kid_is n k kid).0 (kid_is n k kid).1;
     hung = λ n there top. elim (objects_hung d t n (object_is n (sym (has_is n) ∙ there))) [ inl is ↦ absurd (top (sym is)) | inr (p, one, kid) ↦ (p, kid_of p n one kid) ];
     focused = focus_held d.focus;
-    texts = λ n r found. subst HasFittingText (record_found n r found) (fits (record_of d n) (body d n) (short n) refl refl);
+    texts = λ n r found. subst HasFittingText (record_found n r found) (fits (record_of d n) (body d n) (t.fits n) refl refl);
   }
     where
       once_each : (n : ℕ) (b : Bool) → HasNoRepeats (cond b (kids d n) [])
