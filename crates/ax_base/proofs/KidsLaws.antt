@@ -52,7 +52,8 @@ module _ (d : Document) (t : IsTree d) where
   pub kids_deeper : (n k : ℕ) → Contains (kids d n) k → t.level n < t.level k
   kids_deeper n k inside = deeper_within 64 n k (omega arith) inside
 
-  kids_fall : (n k : ℕ) → Contains (kids d n) k → 64 - t.level k < 64 - t.level n
+  -- and so its rank falls
+  pub kids_fall : (n k : ℕ) → Contains (kids d n) k → 64 - t.level k < 64 - t.level n
   kids_fall n k inside = let e = kids_deeper n k inside in let s = t.shallow k in omega arith
 
   -- what is made of an object is made of its kids and of what is made of those

@@ -8,6 +8,7 @@ pub mod Lookups
 pub mod SameLookups
 pub mod Repeats
 pub mod Joins
+pub mod Reached
 pub mod KidsLaws
 pub mod Objects
 pub mod Written

@@ -1,5 +1,5 @@
 -- Laws of the objects of a tree.
-use Rattle.std.proofs.Common.{◌≡◌, ◌⊎◌, inl, inr, ℕ, zero, suc, ◌-◌, ◌<◌, ◌≤◌, List, [], ◌∷◌, ◌++◌, map, Contains, Bool, true, false, not, cond, Some, refl, sym, ap, subst, ◌∙◌, arith}
+use Rattle.std.proofs.Common.{◌≡◌, ◌⊎◌, inl, inr, ℕ, zero, suc, ◌-◌, ◌<◌, ◌≤◌, List, [], ◌∷◌, Contains, Bool, true, false, not, cond, Some, refl, sym, ap, subst, ◌∙◌, arith}
 use Rattle.std.specs.Prelude.{find, nat_eq}
 use Rattle.std.specs.List.{flat_map, list_any}
 use Rattle.std.proofs.lemmas.Bool.{false≢true}
@@ -10,15 +10,16 @@ use Rattle.std.proofs.lemmas.Map.Views.{Contains-from_any}
 use Rattle.ax_base.specs.Document.{Document, has, spot, children, lineage, ancestors, root, IsChild}
 use Rattle.ax_base.specs.Trees.{IsTree, HasNoRepeats}
 use Rattle.ax_base.specs.Roles.{ignored}
-use Rattle.ax_base.specs.Kids.{kids, taken, is_pruned, from_kids, objects, objects_from}
+use Rattle.ax_base.specs.Kids.{kids, taken, is_pruned, objects}
 use Rattle.ax_base.proofs.Membership.{Contains-head, Contains-tail}
 use Rattle.ax_base.proofs.Places.{has_children, lineage-child}
-use Rattle.ax_base.proofs.KidsLaws.{kids-children, from_kids_unfolds, ancestors-child, kids_deeper, lineage-ancestors}
-use Rattle.ax_base.proofs.Joins.{Contains-cases, Contains-flat_map, in_flat_map, no_repeats-flat_map}
+use Rattle.ax_base.proofs.KidsLaws.{kids-children, ancestors-child, kids_deeper, kids_fall, lineage-ancestors}
+use Rattle.ax_base.proofs.Joins.{in_flat_map, no_repeats-flat_map}
+use Rattle.ax_base.proofs.Reached.{reached, reached-below, reached_self, reached_more, reached_cases, reached_on, by_reached}
 
 -- an object, and what is below it
 abbrev pub branch : Document → ℕ → List ℕ
-branch d n = from_kids objects_from d n
+branch d n = reached (kids d) 64 n
 
 -- the first that passes, where one is known and no other one of the list passes
 pub find_one : (test : ℕ → Bool) (xs : List ℕ) (p : ℕ) → Contains xs p → test p ≡ true → ((q : ℕ) → Contains xs q → test q ≡ true → q ≡ p) → find test xs ≡ Some p
@@ -158,69 +159,43 @@ module _ (d : Document) (t : IsTree d) where
   pub kids_once : (n : ℕ) → HasNoRepeats (kids d n)
   kids_once n = kids_once_within 64 n (omega arith)
 
-  branches_each : (ks : List ℕ) → flat_map (λ (c : ℕ × List ℕ). c.1) (map (λ k. (k, branch d k)) ks) ≡ flat_map (branch d) ks
-  branches_each [] = refl
-  branches_each (k ∷ ks) = ap (λ l. branch d k ++ l) (branches_each ks)
+  abbrev rank : ℕ → ℕ
+  rank n = 64 - t.level n
+
+  low : (n : ℕ) → rank n ≤ 64
+  low n = omega arith
 
   -- what is at or below an object is the object, and what is at or below its kids
   pub branch-kids : (n : ℕ) → branch d n ≡ n ∷ flat_map (branch d) (kids d n)
-  branch-kids n = from_kids_unfolds d t objects_from n ∙ ap (λ l. n ∷ l) (branches_each (kids d n))
+  branch-kids n = reached-below (kids d) rank 64 low (kids_fall d t) n
 
   pub branch_self : (n : ℕ) → Contains (branch d n) n
-  branch_self n = subst (λ l. Contains l n) (sym (branch-kids n)) (Contains-head n (flat_map (branch d) (kids d n)))
+  branch_self n = reached_self (kids d) rank 64 low (kids_fall d t) n
 
   pub branch_more : (n k x : ℕ) → Contains (kids d n) k → Contains (branch d k) x → Contains (branch d n) x
-  branch_more n k x kid inside = subst (λ l. Contains l x) (sym (branch-kids n)) (Contains-tail n x (flat_map (branch d) (kids d n)) (Contains-flat_map (branch d) (kids d n) k x kid inside))
+  branch_more n k x kid inside = reached_more (kids d) rank 64 low (kids_fall d t) n k x kid inside
 
   pub branch_cases : (n x : ℕ) → Contains (branch d n) x → (n ≡ x) ⊎ ((k : ℕ) × Contains (kids d n) k × Contains (branch d k) x)
-  branch_cases n x inside = elim (Contains-cases x n (flat_map (branch d) (kids d n)) (subst (λ l. Contains l x) (branch-kids n) inside)) [
-    | inl is ↦ inl is
-    | inr more ↦ inr (in_flat_map (branch d) (kids d n) x more)
-  ]
-
-  -- What holds of n, and of each kid of an object of which it holds, holds of all that is at or below n.
-  module _ (P : ℕ → Type 0) (step : (p k : ℕ) → P p → Contains (kids d p) k → P k) where
-    by_branch_within : (levels n x : ℕ) → 64 - t.level n ≤ levels → P n → Contains (branch d n) x → P x
-    by_branch_within zero n x fits first inside = elim (branch_cases n x inside) [
-      | inl is ↦ subst P is first
-      | inr (k, kid, more) ↦ let e = kids_deeper d t n k kid in let s = t.shallow k in absurd (omega arith)
-    ]
-    by_branch_within (suc levels) n x fits first inside = elim (branch_cases n x inside) [
-      | inl is ↦ subst P is first
-      | inr (k, kid, more) ↦ let e = kids_deeper d t n k kid in by_branch_within levels k x (omega arith) (step n k first kid) more
-    ]
-
-    pub by_branch : (n x : ℕ) → P n → Contains (branch d n) x → P x
-    by_branch n x first inside = by_branch_within 64 n x (omega arith) first inside
-
-  kid_within : (levels n p k : ℕ) → 64 - t.level n ≤ levels → Contains (branch d n) p → Contains (kids d p) k → Contains (branch d n) k
-  kid_within zero n p k fits inside kid = elim (branch_cases n p inside) [
-    | inl is ↦ branch_more n k k (subst (λ q. Contains (kids d q) k) (sym is) kid) (branch_self k)
-    | inr (j, next, more) ↦ let e = kids_deeper d t n j next in let s = t.shallow j in absurd (omega arith)
-  ]
-  kid_within (suc levels) n p k fits inside kid = elim (branch_cases n p inside) [
-    | inl is ↦ branch_more n k k (subst (λ q. Contains (kids d q) k) (sym is) kid) (branch_self k)
-    | inr (j, next, more) ↦ let e = kids_deeper d t n j next in branch_more n j k next (kid_within levels j p k (omega arith) more kid)
-  ]
+  branch_cases n x inside = reached_cases (kids d) rank 64 low (kids_fall d t) n x inside
 
   -- the kids of an object are objects
   pub kids_are_objects : (p k : ℕ) → Contains (objects d) p → Contains (kids d p) k → Contains (objects d) k
-  kids_are_objects p k inside kid = kid_within 64 root p k (omega arith) inside kid
+  kids_are_objects p k inside kid = reached_on (kids d) rank 64 low (kids_fall d t) root p k inside kid
 
   pub root_is_object : Contains (objects d) root
   root_is_object = branch_self root
 
   -- each object is a node
   pub objects_known : (n : ℕ) → Contains (objects d) n → has d n ≡ true
-  objects_known n inside = by_branch (λ k. has d k ≡ true) (λ p k there kid. kids_known p k kid) root n t.has_root inside
+  objects_known n inside = by_reached (kids d) rank 64 low (kids_fall d t) (λ k. has d k ≡ true) (λ p k there kid. kids_known p k kid) root n t.has_root inside
 
   -- no object is ignored
   pub objects_shown : (n : ℕ) → Contains (objects d) n → ignored (spot d n) ≡ false
-  objects_shown n inside = by_branch (λ k. ignored (spot d k) ≡ false) (λ p k was kid. kids_shown p k kid) root n refl inside
+  objects_shown n inside = by_reached (kids d) rank 64 low (kids_fall d t) (λ k. ignored (spot d k) ≡ false) (λ p k was kid. kids_shown p k kid) root n refl inside
 
   abbrev Hung : ℕ → Type 0
   Hung k = Contains (objects d) k × ((root ≡ k) ⊎ ((p : ℕ) × Contains (objects d) p × Contains (kids d p) k))
 
   -- each object but the root is a kid of an object
   pub objects_hung : (n : ℕ) → Contains (objects d) n → (root ≡ n) ⊎ ((p : ℕ) × Contains (objects d) p × Contains (kids d p) n)
-  objects_hung n inside = (by_branch Hung (λ p k held kid. (kids_are_objects p k held.0 kid, inr (p, held.0, kid))) root n (root_is_object, inl refl) inside).1
+  objects_hung n inside = (by_reached (kids d) rank 64 low (kids_fall d t) Hung (λ p k held kid. (kids_are_objects p k held.0 kid, inr (p, held.0, kid))) root n (root_is_object, inl refl) inside).1

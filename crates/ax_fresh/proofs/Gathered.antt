@@ -1,5 +1,5 @@
 -- The walk that gathers kids and puts in records.
-use Rattle.std.proofs.Common.{◌≡◌, ℕ, suc, ◌+◌, ◌-◌, ◌*◌, ◌<◌, ◌≤◌, List, [], ◌∷◌, ◌++◌, length, get_or, take, Bool, true, false, cond, ◌||◌, ◌==◌, Option, Some, None, Contains, refl, sym, ap, ◌∙◌, subst, arith, append_assoc, append-nil, add-one}
+use Rattle.std.proofs.Common.{◌≡◌, ℕ, suc, ◌+◌, ◌-◌, ◌*◌, ◌<◌, ◌≤◌, List, [], ◌∷◌, ◌++◌, length, get_or, take, Bool, true, false, cond, ◌||◌, ◌==◌, Some, None, Contains, refl, sym, ap, ◌∙◌, subst, arith, append_assoc, append-nil, add-one}
 use Rattle.std.proofs.Math.Seq.{take-suc}
 use Rattle.std.proofs.lemmas.Grind.{common_steps}
 use Rattle.std.specs.List.{flat_map, list_any}
@@ -119,12 +119,26 @@ module _ (d : Document) (t : IsTree d) where
   taken_self n b skip is_body skips off visible =
       (λ i. cond (visible i) [] (cond (ignored (spot d n)) (kids d n) (n ∷ []))) ∙ ap (λ x. cond x (kids d n) (n ∷ [])) (ignored_is n b skip is_body skips ∙ off)
 
-  -- a kid of an object is an object, and has it as its parent
-  pub kid_object : (above n : ℕ) (ks : List ℕ) → AreKidsOf d above ks → ks ≡ n ∷ [] → Contains (objects d) n
-  kid_object above n ks (one, each) is = kids_are_objects d t above n one (each n (subst (λ l. Contains l n) (sym is) (Contains-head n [])))
-
-  pub kid_parent : (above n : ℕ) (ks : List ℕ) → AreKidsOf d above ks → ks ≡ n ∷ [] → Some above ≡ holder d n
-  kid_parent above n ks (one, each) is = sym (holder_is d t above n one (each n (subst (λ l. Contains l n) (sym is) (Contains-head n []))))
+  -- what is known of a child that is shown, by its cell: it is an object, the cell is the document's, its role is by it, it is visible, and it hangs on `above`
+  pub child_object : (above n : ℕ) (x : Cell) (r : Role) (skip : Bool) → x ≡ cell_of d n → r ≡ role_of (n == root) x.body → skip ≡ ignored (record { id = n; body = x.body }) → skip ≡ false
+      → is_pruned d n ≡ false → AreKidsOf d above (taken d n)
+      → Contains (objects d) x.id × ((x ≡ cell_of d x.id) × ((r ≡ role_of (x.id == root) x.body) × ((is_pruned d x.id ≡ false) × (Some above ≡ holder d x.id))))
+  child_object above n x r skip cell is_role skips off visible (one, each) =
+      let id_is : x.id ≡ n = ap (λ (y : Cell). y.id) cell in
+      let gives : taken d n ≡ n ∷ [] = taken_self n x.body skip (ap (λ (y : Cell). y.body) cell) skips off visible in
+      let kid : Contains (kids d above) n = each n (subst (λ l. Contains l n) (sym gives) (Contains-head n [])) in (
+        subst (Contains (objects d)) (sym id_is) (kids_are_objects d t above n one kid),
+        (
+          cell ∙ ap (cell_of d) (sym id_is),
+          (
+            is_role ∙ ap (λ j. role_of (j == root) x.body) (sym id_is),
+            (
+              ap (is_pruned d) id_is ∙ visible,
+              sym (ap (holder d) id_is ∙ holder_is d t above n one kid),
+            ),
+          ),
+        ),
+      )
 
   -- the record of an object after those below it
   pub put_last : (n : ℕ) (old mid new : List (ℕ × Record)) (r : Record) → mid ≡ with_records d old (flat_map (put_order d) (kids d n)) → new ≡ insert_entry nat_cmp mid r.id r → r ≡ record_of d n

@@ -1,5 +1,5 @@
 -- The records that a walk puts in are those of the tree.
-use Rattle.std.proofs.Common.{◌≡◌, ◌⊎◌, inl, inr, ℕ, zero, suc, ◌-◌, ◌≤◌, List, [], ◌∷◌, ◌++◌, map, Contains, Bool, true, false, cond, ◌||◌, Option, Some, None, refl, sym, ap, subst, ◌∙◌, arith, eqb}
+use Rattle.std.proofs.Common.{◌≡◌, inl, inr, ℕ, zero, suc, ◌-◌, ◌≤◌, List, [], ◌∷◌, ◌++◌, map, Contains, Bool, true, false, cond, ◌||◌, Some, None, refl, sym, ap, subst, ◌∙◌, arith, eqb}
 use Rattle.std.specs.Prelude.{nat_eq}
 use Rattle.std.specs.List.{flat_map, list_any}
 use Rattle.std.specs.List.Sorted.{IsStrictlyIncreasing}
@@ -12,7 +12,7 @@ use Rattle.std.proofs.lemmas.Map.Views.{Contains-from_any, list_any-from_Contain
 use Rattle.std.proofs.lemmas.List.Elements.{Contains-append_left, Contains-push, Contains-push_cases}
 use Rattle.ax_base.specs.Document.{Document, root}
 use Rattle.ax_base.specs.Trees.{IsTree}
-use Rattle.ax_base.specs.Kids.{kids, objects, from_kids}
+use Rattle.ax_base.specs.Kids.{kids}
 use Rattle.ax_base.proofs.Lookups.{finds_is, lookup-insert_entry, keys-insert_entry, rising-insert_key}
 use Rattle.ax_base.proofs.SameLookups.{same_lookups}
 use Rattle.ax_base.proofs.KidsLaws.{from_kids_unfolds, kids_deeper}

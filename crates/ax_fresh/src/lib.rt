@@ -4,6 +4,8 @@
 mod content;
 mod focus;
 mod names;
+#[cfg(test)]
+mod tests;
 mod walk;
 
 pub use walk::build;

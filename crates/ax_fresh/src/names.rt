@@ -53,13 +53,7 @@ fn named(node: &Body) -> &str
     match node {
         Body::Words { chars, .. } => chars.as_str(),
         Body::Element { attrs, .. } => match attrs.get("aria-label") {
-            Some(label) => {
-                if label.is_blank() {
-                    ""
-                } else {
-                    label.as_str()
-                }
-            }
+            Some(label) => { if label.is_blank() { "" } else { label.as_str() } }
             None => "",
         },
     }

@@ -12,7 +12,14 @@ use std::sync::ledger::{Blank, Ledger};
 use std::test::Fail;
 
 /// Inserts an element with a label, as the last child.
-fn insert(alloc: Global, dom: &mut Dom, id: u32, into: u32, tag: &str, label: &str) -> Result<(), Fail> {
+fn insert(
+    alloc: Global,
+    dom: &mut Dom,
+    id: u32,
+    into: u32,
+    tag: &str,
+    label: &str,
+) -> Result<(), Fail> {
     let mut attrs = Attrs::new(alloc);
     attrs.push(Attr {
         name: Text::from_str(alloc, "aria-label")?,

@@ -69,7 +69,16 @@ fn put_object<L: Ledger>(
 {
     let id = cell.id;
     let mut below = Ids::new(alloc);
-    gather_inside(alloc, dom, id, is_pruning(role), id, &mut below, records, steps)?;
+    gather_inside(
+        alloc,
+        dom,
+        id,
+        is_pruning(role),
+        id,
+        &mut below,
+        records,
+        steps,
+    )?;
     let object = record_of(alloc, dom, cell, role, parent, below, steps)?;
     records.put(object)
 }
@@ -146,7 +155,16 @@ fn gather_child<L: Ledger>(
     };
     let role = role_of(child, &cell.body);
     if is_ignored(child, role, &cell.body) {
-        return gather_inside(alloc, dom, child, is_pruning(role), above, found, records, steps);
+        return gather_inside(
+            alloc,
+            dom,
+            child,
+            is_pruning(role),
+            above,
+            found,
+            records,
+            steps,
+        );
     }
     put_object(alloc, dom, cell, role, Some(above), records, steps)?;
     found.push(child)

@@ -110,7 +110,8 @@ module _ (d : Document) (t : IsTree d) where
       go true = refl
       go false = refl
 
-  kids_are : (n : ℕ) → kids_of (tree d) n ≡ cond (is_object d n) (kids d n) []
+  -- the kids of an object in the tree
+  pub kids_are : (n : ℕ) → kids_of (tree d) n ≡ cond (is_object d n) (kids d n) []
   kids_are n = ap (λ o. option_map_or (λ (r : Record). r.kids) o []) (record_is n) ∙ go (is_object d n)
     where
       go : (b : Bool) → option_map_or (λ (r : Record). r.kids) (cond b (Some (record_of d n)) None) [] ≡ cond b (kids d n) []
@@ -125,7 +126,7 @@ module _ (d : Document) (t : IsTree d) where
       go false = refl
 
   -- a kid in the tree hangs on an object
-  kid_is : (n k : ℕ) → IsKid (tree d) n k → Contains (objects d) n × Contains (kids d n) k
+  pub kid_is : (n k : ℕ) → IsKid (tree d) n k → Contains (objects d) n × Contains (kids d n) k
   kid_is n k kid = go (is_object d n) refl (subst (λ l. Contains l k) (kids_are n) kid)
     where
       go : (b : Bool) → is_object d n ≡ b → Contains (cond b (kids d n) []) k → Contains (objects d) n × Contains (kids d n) k

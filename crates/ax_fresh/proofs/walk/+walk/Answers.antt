@@ -1,16 +1,13 @@
-use Rattle.std.proofs.Common.{◌≡◌, ◌∙◌, ◌==◌, ◌++◌, true, false, Contains, sym, ap, subst, arith, append-nil}
+use Rattle.std.proofs.Common.{◌≡◌, ◌∙◌, ◌++◌, true, sym, ap, subst, arith, append-nil}
 use Rattle.std.proofs.lemmas.Result.{on_ok_weaker}
 use Rattle.std.specs.List.{flat_map}
-use Rattle.ax_base.specs.Document.{IsChild, has, root, body, depth}
-use Rattle.ax_base.specs.Roles.{role_of}
-use Rattle.ax_base.specs.Kids.{kids, taken, objects, is_pruned, is_shut}
+use Rattle.ax_base.specs.Document.{IsChild, has, body, depth}
+use Rattle.ax_base.specs.Kids.{kids, taken}
 use Rattle.ax_base.proofs.KidsLaws.{pruned-child}
 use Rattle.ax_base.proofs.Objects.{objects_known}
 use Rattle.ax_dom.specs.declared.cell.Cell.{Cell}
-use Rattle.ax_dom.specs.Slots.{cell_of}
-use Rattle.ax_record.specs.Records.{holder}
 use Rattle.ax_fresh.specs.Gathering.{with_records, put_order, AreKidsOf}
-use Rattle.ax_fresh.proofs.Gathered.{child_of, cell_is, descends, shut_kids, shut_by_role, more_kids, more_records, all_kids, all_put, hangs, taken_past, taken_self, kid_object, kid_parent, put_last}
+use Rattle.ax_fresh.proofs.Gathered.{child_of, cell_is, descends, shut_kids, shut_by_role, more_kids, more_records, all_kids, all_put, hangs, taken_past, child_object, put_last}
 use Rattle.ax_fresh.proofs.walk.+walk.Goals as goal
 
 pub gather-gather_child-requires : goal.gather-gather_child-requires
@@ -25,9 +22,10 @@ gather-gather_child-requires g t c κs within =
 pub gather-loop-child-preserved : goal.gather-loop-child-preserved
 gather-loop-child-preserved g t c =
     let d = c.args.dom.now in
-    let tree = c.children-child-items.ensures.tree in
-    (more_kids d tree c.args.node c.loop-child.child-index c.child-item.result _ _ _ c.children-child-items.result.now (omega arith) c.child-item.is c.loop-child.invariant.0 c.in_ok-gather_child.ensures.kids,
-      more_records d tree c.args.node c.loop-child.child-index c.child-item.result _ _ _ c.children-child-items.result.now (omega arith) c.child-item.is c.loop-child.invariant.1 c.in_ok-gather_child.ensures.records)
+    let tree = c.children-child-items.ensures.tree in (
+      more_kids d tree c.args.node c.loop-child.child-index c.child-item.result _ _ _ c.children-child-items.result.now (omega arith) c.child-item.is c.loop-child.invariant.0 c.in_ok-gather_child.ensures.kids,
+      more_records d tree c.args.node c.loop-child.child-index c.child-item.result _ _ _ c.children-child-items.result.now (omega arith) c.child-item.is c.loop-child.invariant.1 c.in_ok-gather_child.ensures.records,
+    )
 
 pub gather-returns-clause-kids : goal.gather-returns-clause-kids
 gather-returns-clause-kids g t c =
@@ -51,16 +49,9 @@ gather_child-put_object-requires g t c κs within =
     let d = c.args.dom.now in
     let tree = c.in-Some.ensures.tree in
     let cell = cell_is d c.args.child c.in-Some.cell.now c.in-Some.ensures.value in
-    let id_is : c.in-Some.cell.now.id ≡ c.args.child = ap (λ (x : Cell). x.id) cell in
-    let gives = taken_self d tree c.args.child c.in-Some.cell.now.body c.is_ignored.result (ap (λ (x : Cell). x.body) cell) c.is_ignored.ensures c.if-is_ignored.false c.requires.visible in
     let l = c.decreases in
-    let m : depth d c.in-Some.cell.now.id ≡ depth d c.args.child = ap (depth d) id_is in
-    (omega arith, (within, (tree, (
-      subst (Contains (objects d)) (sym id_is) (kid_object d tree c.args.above c.args.child (taken d c.args.child) c.requires.hung gives), (
-      cell ∙ ap (cell_of d) (sym id_is), (
-      c.role_of-role.ensures ∙ ap (λ j. role_of (j == root) c.in-Some.cell.now.body) (sym id_is), (
-      ap (is_pruned d) id_is ∙ c.requires.visible,
-      kid_parent d tree c.args.above c.args.child (taken d c.args.child) c.requires.hung gives ∙ ap (holder d) (sym id_is))))))))
+    let m : depth d c.in-Some.cell.now.id ≡ depth d c.args.child = ap (λ (x : Cell). depth d x.id) cell in
+    (omega arith, (within, (tree, child_object d tree c.args.above c.args.child c.in-Some.cell.now c.role_of-role.result c.is_ignored.result cell c.role_of-role.ensures c.is_ignored.ensures c.if-is_ignored.false c.requires.visible c.requires.hung)))
 
 pub gather_inside-returns-then-shut-clause-kids : goal.gather_inside-returns-then-shut-clause-kids
 gather_inside-returns-then-shut-clause-kids g t c =

@@ -1,6 +1,5 @@
 use Rattle.std.proofs.Common.{◌≡◌, ◌∙◌, sym, ap, subst}
 use Rattle.ax_base.specs.Document.{root}
-use Rattle.ax_record.specs.Tree.{Tree}
 use Rattle.ax_record.specs.ObjectTrees.{IsObjectTree}
 use Rattle.ax_record.specs.Records.{tree}
 use Rattle.ax_record.proofs.TreeOf.{tree_hangs}
