@@ -46,17 +46,17 @@ fn ignored_elements_give_their_kids(rt: HostRuntime) -> Result<(), Fail> {
     insert(alloc, &mut dom, 5, 7, "div", "")?;
     insert(alloc, &mut dom, 3, 5, "button", "Save")?;
     insert(alloc, &mut dom, 4, 3, "article", "")?;
-    look::<Brand>(&rt, &dom, Blank::new(1))
+    look::<Brand>(&rt, alloc, &dom, Blank::new(1))
 }
 
-fn look<L: Ledger>(rt: &HostRuntime, dom: &Dom, blank: Blank) -> Result<(), Fail>
+fn look<L: Ledger>(rt: &impl Abort, alloc: Global, dom: &Dom, blank: Blank) -> Result<(), Fail>
     requires name { blank.name ≡ L.name }
     requires parts { blank.parts ≡ L.parts }
     requires whole { blank.parts ≡ 1 }
 {
     let (book, share) = blank.open::<L>();
     let mut steps = Steps::new(book, share);
-    let tree = build(rt.alloc(), dom, &mut steps)?;
+    let tree = build(alloc, dom, &mut steps)?;
     assert_eq!(rt; tree.root(), ObjId(1));
     assert_eq!(rt; tree.focus(), None);
     assert!(rt; tree.find(ObjId(5)).is_none() && tree.find(ObjId(4)).is_none());

@@ -68,17 +68,9 @@ fn put_object<L: Ledger>(
     ensures { OnOk result (records.new ≡ with_records dom.now records.old (put_order dom.now cell.now.id)) }
 {
     let id = cell.id;
+    let shut = is_pruning(role);
     let mut below = Ids::new(alloc);
-    gather_inside(
-        alloc,
-        dom,
-        id,
-        is_pruning(role),
-        id,
-        &mut below,
-        records,
-        steps,
-    )?;
+    gather_inside(alloc, dom, id, shut, id, &mut below, records, steps)?;
     let object = record_of(alloc, dom, cell, role, parent, below, steps)?;
     records.put(object)
 }
@@ -155,16 +147,8 @@ fn gather_child<L: Ledger>(
     };
     let role = role_of(child, &cell.body);
     if is_ignored(child, role, &cell.body) {
-        return gather_inside(
-            alloc,
-            dom,
-            child,
-            is_pruning(role),
-            above,
-            found,
-            records,
-            steps,
-        );
+        let shut = is_pruning(role);
+        return gather_inside(alloc, dom, child, shut, above, found, records, steps);
     }
     put_object(alloc, dom, cell, role, Some(above), records, steps)?;
     found.push(child)

@@ -42,7 +42,7 @@ gather_child-gather_inside-requires g t c κs within =
     let is_body : c.in-Some.cell.now.body ≡ body d c.args.child = ap (λ (x : Cell). x.body) (cell_is d c.args.child c.in-Some.cell.now c.in-Some.ensures.value) in
     let gives : taken d c.args.child ≡ kids d c.args.child = taken_past d tree c.args.child c.in-Some.cell.now.body c.is_ignored.result is_body c.is_ignored.ensures c.if-is_ignored.true c.requires.visible in
     let l = c.decreases in
-    (omega arith, (within, (tree, (c.requires.known, (c.is_pruning.ensures ∙ shut_by_role d tree c.args.child c.role_of-role.result c.in-Some.cell.now.body c.requires.known is_body c.role_of-role.ensures c.requires.visible, subst (AreKidsOf d c.args.above) gives c.requires.hung)))))
+    (omega arith, (within, (tree, (c.requires.known, (c.is_pruning-shut.ensures ∙ shut_by_role d tree c.args.child c.role_of-role.result c.in-Some.cell.now.body c.requires.known is_body c.role_of-role.ensures c.requires.visible, subst (AreKidsOf d c.args.above) gives c.requires.hung)))))
 
 pub gather_child-put_object-requires : goal.gather_child-put_object-requires
 gather_child-put_object-requires g t c κs within =
@@ -71,7 +71,7 @@ put_object-gather_inside-requires g t c κs within =
     let id = c.args.cell.now.id in
     let there : has d id ≡ true = objects_known d c.requires.tree id c.requires.object in
     let l = c.decreases in
-    (omega arith, (within, (c.requires.tree, (there, (c.is_pruning.ensures ∙ shut_by_role d c.requires.tree id c.args.role c.args.cell.now.body there (ap (λ (x : Cell). x.body) c.requires.cell) c.requires.role c.requires.visible, (c.requires.object, λ k inside. inside))))))
+    (omega arith, (within, (c.requires.tree, (there, (c.is_pruning-shut.ensures ∙ shut_by_role d c.requires.tree id c.args.role c.args.cell.now.body there (ap (λ (x : Cell). x.body) c.requires.cell) c.requires.role c.requires.visible, (c.requires.object, λ k inside. inside))))))
 
 pub put_object-returns : goal.put_object-returns
 put_object-returns g t c =
