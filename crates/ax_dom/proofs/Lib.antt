@@ -1,3 +1,4 @@
+pub mod Fitting
 pub mod Placed
 pub mod Kept
 pub mod Inserts

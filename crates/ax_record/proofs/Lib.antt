@@ -1,0 +1,3 @@
+mod Rows
+pub mod TreeOf
+pub mod Preorder

@@ -1,9 +1,9 @@
 //! What an edit makes of the document.
-ghost use Rattle.std.specs.Prelude.{◌≡◌, OnOk, OnErr, None, IsTrue};
+ghost use Rattle.std.specs.Prelude.{◌≡◌, OnOk, OnErr, None, IsTrue, false};
 ghost use Rattle.ax_base.specs.Document.{has, body};
 ghost use Rattle.ax_dom.specs.Bodies.{body_after};
 ghost use Rattle.ax_dom.specs.Changes.{inserted, with_body, edited};
-ghost use Rattle.ax_dom.specs.Refusals.{MayInsert, edit_cause};
+ghost use Rattle.ax_dom.specs.Refusals.{MayInsert, edit_cause, is_too_long};
 
 use super::{Dom, NO_FRAME};
 use crate::cell::{Cell, Slot};
@@ -58,7 +58,7 @@ impl Dom {
         before: &Option<ObjId>,
         body: Body,
     ) -> Result<(), NoMemory>
-        requires { MayInsert self.old id into before.now }
+        requires { MayInsert self.old id into before.now body }
         ensures ok { OnOk result (self.new ≡ inserted self.old id into before.now body) }
         ensures err { OnErr result (self.new ≡ self.old) }
     {
@@ -81,7 +81,8 @@ impl Dom {
 
     /// Does an edit that changes a node alone, and that nothing refuses. At an error nothing changes.
     fn amend(&mut self, alloc: Global, id: ObjId, e: &Edit) -> Result<(), NoMemory>
-        requires { IsTrue (has self.old id) }
+        requires known { IsTrue (has self.old id) }
+        requires short { is_too_long e.now ≡ false }
         ensures ok { OnOk result (self.new ≡ with_body self.old id (body_after e.now (body self.old id))) }
         ensures err { OnErr result (self.new ≡ self.old) }
     {

@@ -1,0 +1,11 @@
+//! The tree of a document, built whole.
+#![tactic(auto)]
+
+mod content;
+mod focus;
+mod names;
+#[cfg(test)]
+mod tests;
+mod walk;
+
+pub use walk::build;
