@@ -1,5 +1,5 @@
 -- The attributes that the members of an object are.
-use Rattle.std.proofs.Common.{◌≡◌, List, [], ◌∷◌, ◌++◌, Bool, true, false, cond, Option, Some, None, option_map, option_and_then, refl, ap, sym, subst, ◌∙◌, append_assoc, string_bytes, String, Less, is_eq}
+use Rattle.std.proofs.Common.{◌≡◌, List, [], ◌∷◌, ◌++◌, Bool, true, false, cond, Option, Some, None, option_and_then, refl, ap, sym, subst, ◌∙◌, string_bytes, String, Less, is_eq}
 use Rattle.std.specs.declared.alloc.Global.{Global}
 use Rattle.std.specs.Prelude.{bytes_eq}
 use Rattle.std.specs.List.{AllByRecursion}
@@ -7,7 +7,6 @@ use Rattle.std.specs.List.Sorted.{IsStrictlySortedBy}
 use Rattle.std.specs.Map.{keys_of}
 use Rattle.std.specs.String.{string_cmp}
 use Rattle.std.proofs.lemmas.Map.Text.{is_eq-slice_cmp}
-use Rattle.std.proofs.lemmas.List.{append-nil}
 use Rattle.std.proofs.lemmas.Option.{same_Some}
 use Rattle.serde_json.specs.Data.{Data, Members, member}
 use Rattle.serde_json.specs.declared.value.Value.{Value}
@@ -16,18 +15,11 @@ use Rattle.ax_base.specs.declared.attrs.Attr.{Attr}
 use Rattle.ax_base.specs.Attributes.{value_of, HasDistinctNames}
 use Rattle.ax_base.specs.Characters.{Chars}
 use Rattle.ax_base.proofs.AttributeNames.{bytes_eq-flip}
-use Rattle.story_lines.specs.Values.{attribute, attributes}
+use Rattle.story_lines.specs.Attributes.{attribute, attributes}
+use Rattle.story_lines.proofs.Gathered.{after, after_one}
 
 abbrev pub Entry : Type 0
 Entry = String Global × Value
-
--- these attributes, and then those of what is left
-abbrev pub after : List Attr → Option (List Attr) → Option (List Attr)
-after done rest = option_map (λ attrs. done ++ attrs) rest
-
-after_one : (done : List Attr) (a : Attr) (rest : Option (List Attr)) → after done (option_and_then (λ attrs. Some (a ∷ attrs)) rest) ≡ after (done ++ a ∷ []) rest
-after_one done a None = refl
-after_one done a (Some attrs) = ap Some (sym (append_assoc done (a ∷ []) attrs))
 
 -- a member that is an attribute goes to those that are done
 pub next_one : (done : List Attr) (name : Chars) (value : Data) (ms : Members) (a : Attr) → attribute name value ≡ Some a → after done (attributes (member name value ms)) ≡ after (done ++ a ∷ []) (attributes ms)
@@ -36,10 +28,6 @@ next_one done name value ms a is = rw is (after_one done a (attributes ms))
 -- where one is none, there are none
 pub no_more : (done : List Attr) (name : Chars) (value : Data) (ms : Members) → attribute name value ≡ None → after done (attributes (member name value ms)) ≡ None
 no_more done name value ms is = rw is refl
-
--- where nothing is left, those that are done are all
-pub all_done : (done : List Attr) → after done (Some []) ≡ Some done
-all_done done = ap Some (append-nil done)
 
 -- the first attribute of members that are attributes, and the rest
 split : (first : Option Attr) (rest : Option (List Attr)) (attrs : List Attr) → option_and_then (λ a. option_and_then (λ more. Some (a ∷ more)) rest) first ≡ Some attrs

@@ -1,3 +1,4 @@
 pub mod Values
+pub mod Attributes
 pub mod Forms
 pub mod Lines

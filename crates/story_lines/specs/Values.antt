@@ -1,12 +1,11 @@
--- What stands in a line: keys, whole numbers within bounds, tags and attributes.
-use Rattle.std.specs.Prelude.{ℕ, ◌^◌, ◌-◌, ◌&&◌, ◌||◌, ◌==◌, ℤ, pos, negsuc, List, [], ◌∷◌, length, codes, Bool, true, false, nat_le, if◌then◌else◌, Option, Some, None, option_map, option_and_then, bytes_eq}
+-- What stands in a line: keys, whole numbers within bounds, texts and names.
+use Rattle.std.specs.Prelude.{ℕ, ◌^◌, ◌-◌, ◌&&◌, ◌||◌, ◌==◌, ℤ, pos, negsuc, List, [], ◌∷◌, length, codes, Bool, true, false, nat_le, if◌then◌else◌, Option, Some, None, option_map, option_and_then, unwrap_or, bytes_eq}
 use Rattle.std.specs.Char.{is_ascii_lowercase, is_ascii_digit}
 use Rattle.std.specs.List.{list_any, list_all}
 use Rattle.std.specs.Option.{option_map_or}
 use Rattle.serde_json.specs.Data.{Data, Members, no_members, member}
-use Rattle.serde_json.specs.Find.{get, as_object, as_str, as_number, as_i64}
+use Rattle.serde_json.specs.Find.{get, as_object, as_bool, as_str, as_number, as_i64}
 use Rattle.ax_base.specs.Characters.{Chars}
-use Rattle.ax_base.specs.declared.attrs.Attr.{Attr}
 
 infixl 10 ◌>>=◌
 -- what comes of a value, where there is one
@@ -48,16 +47,28 @@ abbrev pub maybe_id : Option Data → Option (Option ℕ)
 maybe_id None = Some None
 maybe_id (Some d) = option_map Some (whole 1 max_id d)
 
+-- `true` stands at the key
+abbrev pub has_true : Chars → Data → Bool
+has_true key d = unwrap_or (get key d >>= as_bool) false
+
+-- the word is the one key, and `true` stands there
+abbrev pub is_word : Chars → Data → Bool
+is_word word d = has_only (word ∷ []) d && has_true word d
+
+-- the text at a key
+abbrev pub text_at : Chars → Data → Option Chars
+text_at key d = get key d >>= as_str
+
 -- the first byte is a letter from `a` to `z`
 abbrev pub begins_with_letter : Chars → Bool
 begins_with_letter [] = false
 begins_with_letter (b ∷ bytes) = is_ascii_lowercase b
 
--- `a` to `z`, a digit or `-`
+-- a byte of a tag: `a` to `z`, a digit or `-`
 abbrev pub is_tag_byte : ℕ → Bool
 is_tag_byte b = is_ascii_lowercase b || is_ascii_digit b || b == 45
 
--- one of these, or `_`, `:` or `.`
+-- a byte of an attribute's name: one of a tag, or `_`, `:` or `.`
 abbrev pub is_name_byte : ℕ → Bool
 is_name_byte b = is_tag_byte b || b == 95 || b == 58 || b == 46
 
@@ -71,21 +82,8 @@ is_attribute_name t = begins_with_letter t && nat_le (length t) 64 && list_all i
 
 -- the tag at the key `tag`
 abbrev pub tag_at : Data → Option Chars
-tag_at d = get (codes "tag") d >>= as_str >>= λ t. if is_tag t then Some t else None
+tag_at d = text_at (codes "tag") d >>= λ t. if is_tag t then Some t else None
 
--- an attribute: its key is a name and its value a string
-abbrev pub attribute : Chars → Data → Option Attr
-attribute name value = as_str value >>= λ text. if is_attribute_name name then Some (record { name = name; value = text }) else None
-
--- the attributes that members are, in their order
-abbrev pub attributes : Members → Option (List Attr)
-attributes no_members = Some []
-attributes (member name value ms) = do
-  attr ← attribute name value
-  attrs ← attributes ms
-  Some (attr ∷ attrs)
-
--- the attributes that may be missing
-abbrev pub maybe_attributes : Option Data → Option (List Attr)
-maybe_attributes None = Some []
-maybe_attributes (Some d) = as_object d >>= attributes
+-- the attribute's name at the key `name`
+abbrev pub name_at : Data → Option Chars
+name_at d = text_at (codes "name") d >>= λ t. if is_attribute_name t then Some t else None

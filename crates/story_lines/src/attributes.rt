@@ -2,7 +2,7 @@
 ghost use Rattle.std.specs.Prelude.{◌≡◌, IfOk, codes};
 ghost use Rattle.serde_json.specs.View.{view, members_view};
 ghost use Rattle.serde_json.specs.Find.{get};
-ghost use Rattle.story_lines.specs.Values.{attribute, attributes, maybe_attributes};
+ghost use Rattle.story_lines.specs.Attributes.{attribute, attributes, maybe_attributes};
 
 use crate::values::is_attribute_name;
 use ax_base::{Attr, Attrs, NoMemory, Text};

@@ -1,54 +1,21 @@
 //! The forms of a line.
 ghost use Rattle.std.specs.Prelude.{◌≡◌, IfOk};
 ghost use Rattle.serde_json.specs.View.{view};
-ghost use Rattle.story_lines.specs.Forms.{element_inserted, start, form_of};
+ghost use Rattle.story_lines.specs.Forms.{start_of, flush_of, turns_of, form_of};
+ghost use Rattle.story_lines.specs.Values.{is_word};
 
-use crate::attributes::maybe_attributes;
+use crate::edits::edit_of;
 use crate::keys::has_only;
 use crate::reading::Line;
-use crate::values::{id_at, maybe_id_at, tag_at, whole_at};
+use crate::values::{has_true, text_at, whole_at};
 use ax_base::{NoMemory, Text};
-use ax_dom::Edit;
 use serde_json::Value;
 use std::alloc::Global;
 
-/// Insert an element.
-#[tactic(auto, unfolding(crate::specs::Forms::element_inserted))]
-fn element_inserted(alloc: Global, value: &Value) -> Result<Option<Edit>, NoMemory>
-    ensures { IfOk result (λ edit. edit ≡ element_inserted (view value.now)) }
-{
-    if !has_only(value, &["insert", "into", "before", "tag", "attrs"]) {
-        return Ok(None);
-    }
-    let Some(id) = id_at(value, "insert") else {
-        return Ok(None);
-    };
-    let Some(into) = id_at(value, "into") else {
-        return Ok(None);
-    };
-    let Some(before) = maybe_id_at(value, "before") else {
-        return Ok(None);
-    };
-    let Some(tag) = tag_at(value) else {
-        return Ok(None);
-    };
-    let Some(attrs) = maybe_attributes(alloc, value)? else {
-        return Ok(None);
-    };
-    let tag = Text::from_str(alloc, tag)?;
-    Ok(Some(Edit::InsertElement {
-        id,
-        into,
-        before,
-        tag,
-        attrs,
-    }))
-}
-
 /// Start.
-#[tactic(auto, unfolding(crate::specs::Forms::start))]
-fn start(value: &Value) -> Option<Line>
-    ensures { result ≡ start (view value.now) }
+#[tactic(auto, unfolding(crate::specs::Forms::start_of))]
+fn start_of(value: &Value) -> Option<Line>
+    ensures { result ≡ start_of (view value.now) }
 {
     if !has_only(value, &["start"]) {
         return None;
@@ -57,12 +24,52 @@ fn start(value: &Value) -> Option<Line>
     Some(Line::Start)
 }
 
+/// Whether a value has one key, at which `true` stands.
+fn is_word(value: &Value, word: &str) -> bool
+    ensures { result ≡ is_word word.now (view value.now) }
+{
+    has_only(value, &[word]) && has_true(value, word)
+}
+
+/// Flush.
+#[tactic(auto, unfolding(crate::specs::Forms::flush_of))]
+fn flush_of(value: &Value) -> Option<Line>
+    ensures { result ≡ flush_of (view value.now) }
+{
+    if is_word(value, "flush") {
+        Some(Line::Flush)
+    } else {
+        None
+    }
+}
+
+/// Turns.
+#[tactic(auto, unfolding(crate::specs::Forms::turns_of))]
+fn turns_of(alloc: Global, value: &Value) -> Result<Option<Line>, NoMemory>
+    ensures { IfOk result (λ line. line ≡ turns_of (view value.now)) }
+{
+    if !has_only(value, &["turns"]) {
+        return Ok(None);
+    }
+    let Some(turns) = text_at(value, "turns") else {
+        return Ok(None);
+    };
+    Ok(Some(Line::Turns(Text::from_str(alloc, turns)?)))
+}
+
 /// What a value says as a line.
+#[tactic(auto, unfolding(crate::specs::Forms::form_of))]
 pub(crate) fn form_of(alloc: Global, value: &Value) -> Result<Option<Line>, NoMemory>
     ensures { IfOk result (λ line. line ≡ form_of (view value.now)) }
 {
-    match element_inserted(alloc, value)? {
-        Some(edit) => Ok(Some(Line::Change(edit))),
-        None => Ok(start(value)),
+    if let Some(edit) = edit_of(alloc, value)? {
+        return Ok(Some(Line::Change(edit)));
     }
+    if let Some(line) = start_of(value) {
+        return Ok(Some(line));
+    }
+    if let Some(line) = flush_of(value) {
+        return Ok(Some(line));
+    }
+    turns_of(alloc, value)
 }

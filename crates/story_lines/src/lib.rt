@@ -2,6 +2,7 @@
 #![tactic(auto)]
 
 mod attributes;
+mod edits;
 mod forms;
 mod keys;
 mod reading;

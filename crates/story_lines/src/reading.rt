@@ -4,7 +4,7 @@ ghost use Rattle.serde_json.specs.View.{view};
 ghost use Rattle.story_lines.specs.Lines.{is_blank_line, said_by, line_of, Reads};
 
 use crate::forms::form_of;
-use ax_base::NoMemory;
+use ax_base::{NoMemory, Text};
 use ax_dom::Edit;
 use serde_json::Value;
 use std::alloc::Global;
@@ -17,6 +17,10 @@ pub enum Line {
     Change(Edit),
     /// The document so far is the one of moment 0.
     Start,
+    /// The page publishes its document, which gives the next moment.
+    Flush,
+    /// The order in which the two sides take turns.
+    Turns(Text),
 }
 
 /// Why a line can't be read.

@@ -1,6 +1,6 @@
 //! Lines with what they say.
 use crate::{Line, LineFail, read_line};
-use ax_base::ObjId;
+use ax_base::{Attrs, ObjId, Text};
 use ax_dom::Edit;
 use std::alloc::{AllocError, Global};
 use std::test::Fail;
@@ -13,6 +13,30 @@ fn number_of(id: Option<ObjId>) -> u32 {
     }
 }
 
+/// A new element in a few words.
+fn shown_element(
+    alloc: Global,
+    place: String,
+    tag: &Text,
+    attrs: &Attrs,
+) -> Result<String, AllocError> {
+    let mut out = format!(in alloc; "insert {place} {}", tag.as_str())?;
+    for attr in attrs.as_slice() {
+        write!(out, " {}={}", attr.name.as_str(), attr.value.as_str())?;
+    }
+    Ok(out)
+}
+
+/// Where a node goes, in a few words.
+fn shown_place(
+    alloc: Global,
+    id: ObjId,
+    into: ObjId,
+    before: Option<ObjId>,
+) -> Result<String, AllocError> {
+    format!(in alloc; "{} {} {}", id.number(), into.number(), number_of(before))
+}
+
 /// An edit in a few words.
 fn shown(alloc: Global, edit: &Edit) -> Result<String, AllocError> {
     match edit {
@@ -22,19 +46,38 @@ fn shown(alloc: Global, edit: &Edit) -> Result<String, AllocError> {
             before,
             tag,
             attrs,
-        } => {
-            let mut out = format!(in alloc;
-                "insert {} {} {} {}",
-                id.number(),
-                into.number(),
-                number_of(*before),
-                tag.as_str()
-            )?;
-            for attr in attrs.as_slice() {
-                write!(out, " {}={}", attr.name.as_str(), attr.value.as_str())?;
-            }
-            Ok(out)
-        }
+        } => shown_element(alloc, shown_place(alloc, *id, *into, *before)?, tag, attrs),
+        Edit::InsertText {
+            id,
+            into,
+            before,
+            chars,
+        } => format!(in alloc;
+            "insert {} \"{}\"",
+            shown_place(alloc, *id, *into, *before)?,
+            chars.as_str()
+        ),
+        Edit::Set { id, name, value } => format!(in alloc;
+            "set {} {}={}",
+            id.number(),
+            name.as_str(),
+            value.as_str()
+        ),
+        Edit::Chars { id, chars } => format!(in alloc;
+            "text {} \"{}\"",
+            id.number(),
+            chars.as_str()
+        ),
+    }
+}
+
+/// A line in a few words.
+fn shown_line(alloc: Global, line: &Line) -> Result<String, AllocError> {
+    match line {
+        Line::Change(edit) => shown(alloc, edit),
+        Line::Start => String::from_str(alloc, "start"),
+        Line::Flush => String::from_str(alloc, "flush"),
+        Line::Turns(turns) => format!(in alloc; "turns \"{}\"", turns.as_str()),
     }
 }
 
@@ -42,8 +85,7 @@ fn shown(alloc: Global, edit: &Edit) -> Result<String, AllocError> {
 fn said(alloc: Global, line: &str) -> Result<String, AllocError> {
     match read_line(alloc, line) {
         Ok(None) => String::from_str(alloc, "blank"),
-        Ok(Some(Line::Change(edit))) => shown(alloc, &edit),
-        Ok(Some(Line::Start)) => String::from_str(alloc, "start"),
+        Ok(Some(line)) => shown_line(alloc, &line),
         Err(LineFail::BadJson) => String::from_str(alloc, "bad json"),
         Err(LineFail::BadLine) => String::from_str(alloc, "bad line"),
         Err(LineFail::NoMemory) => String::from_str(alloc, "no memory"),
@@ -131,6 +173,54 @@ fn reads_inserts(rt: HostRuntime) -> Result<(), Fail> {
             "{\"insert\":2,\"into\":1,\"tag\":\"p\",\"id\":1}",
             "bad line",
         ),
+    ] {
+        assert_eq!(rt; said(rt.alloc(), line)?.as_str(), want, "at {line}");
+    }
+    Ok(())
+}
+
+#[test]
+fn reads_edits(rt: HostRuntime) -> Result<(), Fail> {
+    for (line, want) in [
+        (
+            "{\"insert\":2,\"into\":1,\"text\":\"Hi \\u00e9\"}",
+            "insert 2 1 0 \"Hi \u{e9}\"",
+        ),
+        (
+            "{\"insert\":2,\"into\":1,\"before\":3,\"text\":\"\"}",
+            "insert 2 1 3 \"\"",
+        ),
+        (
+            "{\"insert\":2,\"into\":1,\"text\":\"\",\"tag\":\"p\"}",
+            "bad line",
+        ),
+        (
+            "{\"insert\":2,\"into\":1,\"text\":\"\",\"attrs\":{}}",
+            "bad line",
+        ),
+        ("{\"set\":2,\"name\":\"id\",\"value\":\"\"}", "set 2 id="),
+        ("{\"set\":2,\"name\":\"Id\",\"value\":\"\"}", "bad line"),
+        ("{\"set\":2,\"name\":\"id\",\"value\":null}", "bad line"),
+        ("{\"set\":2,\"name\":\"id\"}", "bad line"),
+        ("{\"text\":2,\"to\":\"a\\n\"}", "text 2 \"a\n\""),
+        ("{\"text\":2,\"to\":3}", "bad line"),
+        ("{\"text\":\"a\",\"to\":\"a\"}", "bad line"),
+    ] {
+        assert_eq!(rt; said(rt.alloc(), line)?.as_str(), want, "at {line}");
+    }
+    Ok(())
+}
+
+#[test]
+fn reads_flushes_and_turns(rt: HostRuntime) -> Result<(), Fail> {
+    for (line, want) in [
+        ("{\"flush\":true}", "flush"),
+        ("{\"flush\":false}", "bad line"),
+        ("{\"flush\":1}", "bad line"),
+        ("{\"flush\":true,\"hear\":true}", "bad line"),
+        ("{\"turns\":\"PCx\"}", "turns \"PCx\""),
+        ("{\"turns\":\"\"}", "turns \"\""),
+        ("{\"turns\":[]}", "bad line"),
     ] {
         assert_eq!(rt; said(rt.alloc(), line)?.as_str(), want, "at {line}");
     }

@@ -2,7 +2,7 @@
 ghost use Rattle.std.specs.Prelude.{◌≡◌, option_map};
 ghost use Rattle.serde_json.specs.View.{view};
 ghost use Rattle.serde_json.specs.Find.{get};
-ghost use Rattle.story_lines.specs.Values.{whole, whole_at, id_at, maybe_id, begins_with_letter, is_tag_byte, is_name_byte, is_tag, is_attribute_name, tag_at};
+ghost use Rattle.story_lines.specs.Values.{whole, whole_at, id_at, maybe_id, begins_with_letter, is_tag_byte, is_name_byte, is_tag, is_attribute_name, has_true, text_at, tag_at, name_at};
 ghost use Rattle.std.specs.List.{list_all};
 
 use ax_base::ObjId;
@@ -48,6 +48,23 @@ pub(crate) fn maybe_id_at(value: &Value, key: &str) -> Option<Option<ObjId>>
         None => Some(None),
         Some(id) => Some(Some(ObjId(whole(id, 1, MAX_ID)?))),
     }
+}
+
+/// Whether `true` stands at a key.
+pub(crate) fn has_true(value: &Value, key: &str) -> bool
+    ensures { result ≡ has_true key.now (view value.now) }
+{
+    match value.get(key) {
+        Some(word) => word.as_bool().unwrap_or(false),
+        None => false,
+    }
+}
+
+/// The text at a key.
+pub(crate) fn text_at<'v>(value: &'v Value, key: &str) -> Option<&'v str>
+    ensures { option_map (λ t. t.now) result ≡ text_at key.now (view value.now) }
+{
+    value.get(key)?.as_str()
 }
 
 fn begins_with_letter(text: &str) -> bool
@@ -101,6 +118,18 @@ pub(crate) fn is_attribute_name(text: &str) -> bool
 pub(crate) fn tag_at(value: &Value) -> Option<&str>
     ensures { option_map (λ t. t.now) result ≡ tag_at (view value.now) }
 {
-    let tag = value.get("tag")?.as_str()?;
+    let tag = text_at(value, "tag")?;
     if is_tag(tag) { Some(tag) } else { None }
+}
+
+/// The attribute's name at the key `name`.
+pub(crate) fn name_at(value: &Value) -> Option<&str>
+    ensures { option_map (λ t. t.now) result ≡ name_at (view value.now) }
+{
+    let name = text_at(value, "name")?;
+    if is_attribute_name(name) {
+        Some(name)
+    } else {
+        None
+    }
 }

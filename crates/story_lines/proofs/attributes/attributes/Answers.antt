@@ -1,7 +1,8 @@
 use Rattle.std.proofs.Common.{◌≡◌, List, Some, sym, ap, ◌∙◌, string_bytes}
 use Rattle.serde_json.specs.View.{view, members_view}
-use Rattle.story_lines.specs.Values.{attribute, attributes}
-use Rattle.story_lines.proofs.AttributeLists.{Entry, after, next_one, all_done, distinct}
+use Rattle.story_lines.specs.Attributes.{attribute, attributes}
+use Rattle.story_lines.proofs.Gathered.{after, all_done}
+use Rattle.story_lines.proofs.AttributeLists.{Entry, next_one, distinct}
 use Rattle.story_lines.proofs.attributes.attributes.Goals as goal
 
 pub loop-name-preserved : goal.loop-name-preserved

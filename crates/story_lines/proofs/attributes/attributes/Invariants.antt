@@ -1,7 +1,7 @@
 use Rattle.std.proofs.Common.{◌≡◌}
 use Rattle.serde_json.specs.View.{members_view}
-use Rattle.story_lines.specs.Values.{attributes}
-use Rattle.story_lines.proofs.AttributeLists.{after}
+use Rattle.story_lines.specs.Attributes.{attributes}
+use Rattle.story_lines.proofs.Gathered.{after}
 use Rattle.story_lines.proofs.attributes.attributes.Given as goal
 
 abbrev pub invariant-loop-name : goal.invariant-loop-name
