@@ -1,5 +1,5 @@
 pub mod LineSteps
 pub mod Judging
 pub mod Complete
-pub mod Walk
+pub mod Lines
 pub mod Rows

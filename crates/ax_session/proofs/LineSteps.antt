@@ -8,7 +8,7 @@ use Rattle.std.proofs.lemmas.Bool.Decides.{nat_tests}
 use Rattle.ax_base.specs.Document.{Document}
 use Rattle.ax_dom.specs.Changes.{edited}
 use Rattle.story_lines.specs.declared.reading.Line.{Line}
-use Rattle.story_lines.specs.declared.reading.Line.TheVariants.{Change, Start}
+use Rattle.story_lines.specs.declared.reading.Line.TheVariants.{Change, Start, Flush, Turns}
 use Rattle.story_lines.specs.declared.reading.LineFail.{LineFail}
 use Rattle.ax_session.specs.declared.story.Taken.{Taken}
 use Rattle.story_lines.specs.Lines.{line_of}
@@ -62,6 +62,8 @@ no_last : (doc : Document) (r : Result (Option Line) LineFail) → step_line (λ
 no_last doc (Ok None) = refl
 no_last doc (Ok (Some Start)) = refl
 no_last doc (Ok (Some (Change e))) = closed_off (is_built doc e && is_none (edit_cause doc e)) (edited doc e)
+no_last doc (Ok (Some Flush)) = refl
+no_last doc (Ok (Some (Turns turns))) = refl
 no_last doc (Err fail) = refl
 
 -- a last line without its line feed is not built

@@ -1,4 +1,4 @@
--- Worked examples: the texts of two documents.
+-- Worked examples: the texts of small documents.
 use Rattle.std.proofs.Common.{◌≡◌, refl, [], ◌∷◌, None, codes}
 use Rattle.std.specs.Fmt.{take_chars, digits}
 use lib.Utf8.{encode}
@@ -8,16 +8,21 @@ use Rattle.ax_base.specs.Recursion.{from_below}
 use Rattle.ax_base.specs.Document.{Document, lineage_within}
 use Rattle.ax_base.specs.Quoting.{quoted_char}
 use Rattle.ax_base.specs.declared.attrs.Attr.{Attr}
-use Rattle.ax_dom.specs.declared.edit.Edit.TheVariants.{InsertElement}
+use Rattle.ax_dom.specs.declared.edit.Edit.TheVariants.{InsertElement, InsertText}
 use Rattle.ax_dom.specs.Changes.{new_document, edited}
-use Rattle.ax_session.specs.Dump.{lines_below, dump_text}
+use Rattle.ax_session.specs.Dump.{dump_text}
 
 -- the root alone
 root_alone : dump_text new_document ≡ codes "1 0 document \"\"\nend 0\n"
-unfolding dump_text lines_below from_below lineage_within flat tokens take_chars quoted_char chars digits encode
+unfolding dump_text from_below lineage_within flat tokens take_chars quoted_char chars digits encode
 root_alone = refl
 
 -- a button with a label
 labelled_button : dump_text (edited new_document (InsertElement 2 1 None (codes "button") (record { name = codes "aria-label"; value = codes " Save\nit " } ∷ []))) ≡ codes "1 0 document \"\"\n2 1 button \"Save it\"\nend 0\n"
-unfolding dump_text lines_below from_below lineage_within flat tokens take_chars quoted_char chars digits encode
+unfolding dump_text from_below lineage_within flat tokens take_chars quoted_char chars digits encode
 labelled_button = refl
+
+-- a button that its text names
+named_by_its_text : dump_text (edited (edited new_document (InsertElement 2 1 None (codes "button") [])) (InsertText 3 2 None (codes "Save"))) ≡ codes "1 0 document \"\"\n2 1 button \"Save\"\nend 0\n"
+unfolding dump_text from_below lineage_within flat tokens take_chars quoted_char chars digits encode
+named_by_its_text = refl

@@ -1,40 +1,43 @@
 -- What `dump` writes: a line for each object of the tree in preorder, and the end.
-use Rattle.std.specs.Prelude.{ℕ, List, [], ◌∷◌, ◌++◌, codes}
+use Rattle.std.specs.Prelude.{ℕ, List, [], ◌∷◌, ◌++◌, codes, Option, Some, None}
 use Rattle.std.specs.List.{flat_map}
 use Rattle.std.specs.Fmt.{decimal}
-use Rattle.ax_base.specs.declared.role.Role.{Role}
+use Rattle.std.specs.Option.{option_map_or}
 use Rattle.ax_base.specs.Characters.{Chars}
-use Rattle.ax_base.specs.Document.{Document, root, spot}
+use Rattle.ax_base.specs.Document.{Document, root}
+use Rattle.ax_base.specs.Recursion.{from_below}
 use Rattle.ax_base.specs.RoleWords.{role_word}
-use Rattle.ax_base.specs.Roles.{role}
-use Rattle.ax_base.specs.Kids.{from_kids}
-use Rattle.ax_base.specs.Names.{name}
+use Rattle.ax_base.specs.Kids.{objects_from}
 use Rattle.ax_base.specs.Quoting.{quoted}
+use Rattle.ax_record.specs.declared.record.Record.{Record}
+use Rattle.ax_record.specs.Tree.{Tree, record_at, kids_of}
+use Rattle.ax_record.specs.Records.{tree}
+
+-- the number of an object, or 0 for none
+abbrev pub number_of : Option ℕ → ℕ
+number_of None = 0
+number_of (Some n) = n
 
 -- the line of an object: its id, that of the object it hangs on or 0, its role, and its name
-abbrev pub line : ℕ → ℕ → Role → Chars → Chars
-line id above role name = decimal id ++ codes " " ++ decimal above ++ codes " " ++ role_word role ++ codes " " ++ quoted name ++ 10 ∷ []
+abbrev pub record_line : Record → Chars
+record_line r = decimal r.id ++ codes " " ++ decimal (number_of r.parent) ++ codes " " ++ role_word r.role ++ codes " " ++ quoted r.name ++ 10 ∷ []
 
--- the line of an object that hangs on `above`
-abbrev pub object_line : Document → ℕ → ℕ → Chars
-object_line d above n = line n above (role (spot d n)) (name d n)
+-- the line of an id, where the tree has that object
+abbrev pub object_line : Tree → ℕ → Chars
+object_line t n = option_map_or record_line (record_at t n) []
 
--- each kid's line, and then those below it
-abbrev pub lines_from : Document → ℕ → List (ℕ × Chars) → Chars
-lines_from d n below = flat_map (λ k. object_line d n k.0 ++ k.1) below
+-- an object and those at most so many levels below it, in preorder
+abbrev pub within : Tree → ℕ → ℕ → List ℕ
+within t levels n = from_below objects_from (λ k. k) (kids_of t) levels n
 
--- the lines of the objects below an object
-unfoldable pub lines_below : Document → ℕ → Chars
-lines_below d n = from_kids (lines_from d) d n
-
--- the line of an object that hangs on `above`, and those below it
-abbrev pub branch : Document → ℕ → ℕ → Chars
-branch d above n = object_line d above n ++ lines_below d n
+-- their lines
+abbrev pub lines_within : Tree → ℕ → ℕ → Chars
+lines_within t levels n = flat_map (object_line t) (within t levels n)
 
 -- the last line, with the number of flushes
 abbrev pub end_line : ℕ → Chars
 end_line flushes = codes "end " ++ decimal flushes ++ codes "\n"
 
--- the text of a tree
+-- the text of a document's tree, which goes down at most 128 levels
 unfoldable pub dump_text : Document → Chars
-dump_text d = branch d 0 root ++ end_line 0
+dump_text d = lines_within (tree d) 128 root ++ end_line 0

@@ -9,11 +9,11 @@ use Rattle.ax_base.specs.declared.attrs.Attr.{Attr}
 use Rattle.ax_base.specs.Characters.{Chars}
 use Rattle.ax_base.specs.Document.{Document, root, body}
 use Rattle.ax_dom.specs.declared.edit.Edit.{Edit}
-use Rattle.ax_dom.specs.declared.edit.Edit.TheVariants.{InsertElement}
+use Rattle.ax_dom.specs.declared.edit.Edit.TheVariants.{InsertElement, InsertText, Chars as NewChars, Set}
 use Rattle.ax_dom.specs.Changes.{edited, new_document}
 use Rattle.ax_dom.specs.Refusals.{edit_cause}
 use Rattle.story_lines.specs.declared.reading.Line.{Line}
-use Rattle.story_lines.specs.declared.reading.Line.TheVariants.{Change, Start}
+use Rattle.story_lines.specs.declared.reading.Line.TheVariants.{Change, Start, Flush, Turns}
 use Rattle.story_lines.specs.declared.reading.LineFail.{LineFail}
 use Rattle.story_lines.specs.Lines.{line_of}
 use Rattle.ax_session.specs.declared.story.Cause.TheVariants.{NotBuilt}
@@ -45,18 +45,24 @@ abbrev pub is_holder : Body → Bool
 is_holder (Element tag attrs frame) = bytes_eq tag (codes "main") || bytes_eq tag (codes "article")
 is_holder (Words chars runs) = false
 
--- the inserts that are built today: a main, article or button, last in the root, in a main or in an article
+-- the edits that are built today: inserting a main, article or button, last in the root, in a main or in an article,
+-- inserting a text last in an element, changing a text, and setting a label
 abbrev pub is_built : Document → Edit → Bool
 is_built d (InsertElement id into before tag attrs) = is_none before && is_built_tag tag && are_built_attrs attrs && (into == root || is_holder (body d into))
+is_built d (InsertText id into before chars) = is_none before
+is_built d (NewChars id chars) = true
+is_built d (Set id name value) = bytes_eq name (codes "aria-label")
 
 -- an edit goes on with the document that it leaves, if it is built and nothing refuses it
 abbrev pub takes_edit : (Document → Option Document) → Document → Edit → Option Document
 takes_edit go d e = if is_built d e && is_none (edit_cause d e) then go (edited d e) else None
 
--- one line: the start line has to be the last, and an edit goes on with the document that it leaves
+-- one line: the start line has to be the last, an edit goes on with the document that it leaves, and no other line is built
 abbrev pub step_line : (Document → Option Document) → Bool → Document → Result (Option Line) LineFail → Option Document
 step_line go last d (Ok (Some Start)) = if last then Some d else None
 step_line go last d (Ok (Some (Change e))) = takes_edit go d e
+step_line go last d (Ok (Some Flush)) = None
+step_line go last d (Ok (Some (Turns turns))) = None
 step_line go last d (Ok None) = None
 step_line go last d (Err fail) = None
 

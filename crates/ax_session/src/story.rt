@@ -125,6 +125,8 @@ fn take_line<L: Ledger>(
     match read_line(alloc, line) {
         Ok(Some(Line::Start)) => Ok(if last { Taken::Ends } else { Taken::Breaks }),
         Ok(Some(Line::Change(edit))) => take_edit(alloc, dom, &edit, steps),
+        Ok(Some(Line::Flush)) => Ok(Taken::Breaks),
+        Ok(Some(Line::Turns(_))) => Ok(Taken::Breaks),
         Ok(None) => Ok(Taken::Breaks),
         Err(LineFail::NoMemory) => Err(NoMemory),
         Err(LineFail::BadJson) => Ok(Taken::Breaks),
@@ -169,6 +171,9 @@ fn is_built<L: Ledger>(dom: &Dom, edit: &Edit, steps: &mut Steps<L>) -> bool
                 && are_built_attrs(attrs)
                 && (into.number() == 1 || holds_elements(dom, *into, steps))
         }
+        Edit::InsertText { before, .. } => before.is_none(),
+        Edit::Chars { .. } => true,
+        Edit::Set { name, .. } => name.is("aria-label"),
     }
 }
 
