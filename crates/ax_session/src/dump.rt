@@ -30,12 +30,7 @@ pub fn dump<L: Ledger>(alloc: Global, dom: &Dom, steps: &mut Steps<L>) -> Result
 
 /// The line of an object, and those of the objects at most so many levels below it.
 #[cycle(walk)]
-fn push_object(
-    tree: &FreshTree,
-    id: ObjId,
-    levels: u32,
-    out: &mut String,
-) -> Result<(), NoMemory>
+fn push_object(tree: &FreshTree, id: ObjId, levels: u32, out: &mut String) -> Result<(), NoMemory>
     ensures { OnOk result (string_bytes out.new ≡ string_bytes out.old ++ lines_within tree.now levels id) }
 {
     let Some(object) = tree.find(id) else {
