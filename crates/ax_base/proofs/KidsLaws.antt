@@ -1,15 +1,14 @@
 -- Kids, from children.
-use Rattle.std.proofs.Common.{◌≡◌, ◌≢◌, ◌⊎◌, inl, inr, ℕ, zero, suc, ◌-◌, ◌<◌, ◌≤◌, List, [], ◌∷◌, ◌++◌, map, Contains, Bool, true, false, cond, ◌||◌, refl, sym, ap, subst, ◌∙◌, arith}
+use Rattle.std.proofs.Common.{◌≡◌, ◌≢◌, inl, inr, ℕ, zero, suc, ◌-◌, ◌<◌, ◌≤◌, List, [], ◌∷◌, ◌++◌, map, Contains, Bool, true, false, cond, ◌||◌, refl, sym, ap, subst, ◌∙◌, arith}
 use Rattle.std.proofs.lemmas.Bool.Decides.{eqb_tells}
 use Rattle.std.specs.List.{flat_map, list_any}
 use Rattle.std.specs.Option.{option_map_or}
-use Rattle.ax_base.specs.Recursion.{from_below}
-use Rattle.ax_base.specs.Document.{Document, has, spot, children, parent, lineage, ancestors, root, IsChild}
+use Rattle.ax_base.specs.Document.{Document, has, spot, children, lineage, ancestors, root, IsChild}
 use Rattle.ax_base.specs.Trees.{IsTree}
 use Rattle.ax_base.specs.Roles.{prunes, ignored}
-use Rattle.ax_base.specs.Kids.{Standing, standing, kids, kids_from, taken, is_pruned, is_shut, from_kids}
+use Rattle.ax_base.specs.Kids.{standing, kids, kids_from, taken, is_pruned, is_shut, from_kids}
 use Rattle.ax_base.proofs.Below.{from_below_unfolds}
-use Rattle.ax_base.proofs.Membership.{Contains-head, Contains-tail}
+use Rattle.ax_base.proofs.Joins.{in_flat_map}
 use Rattle.ax_base.proofs.Places.{parent-child, parent-root, lineage-child, lineage-root}
 
 module _ (d : Document) (t : IsTree d) where
@@ -26,19 +25,6 @@ module _ (d : Document) (t : IsTree d) where
   -- the kids of a node are what its children give
   pub kids-children : (n : ℕ) → kids d n ≡ flat_map (taken d) (children d n)
   kids-children n = kids_unfolds n ∙ flat_taken (children d n)
-
-  in_append : (xs ys : List ℕ) (x : ℕ) → Contains (xs ++ ys) x → Contains xs x ⊎ Contains ys x
-  in_append [] ys x inside = inr inside
-  in_append (z ∷ zs) ys x (zero, low, is) = inl (0, omega arith, is)
-  in_append (z ∷ zs) ys x (suc k, low, is) = elim (in_append zs ys x (k, omega arith, is)) [ inl left ↦ inl (Contains-tail z x zs left) | inr right ↦ inr right ]
-
-  -- what is in a joined list is in one of its parts
-  pub in_flat_map : (f : ℕ → List ℕ) (cs : List ℕ) (x : ℕ) → Contains (flat_map f cs) x → (c : ℕ) × Contains cs c × Contains (f c) x
-  in_flat_map f [] x inside = absurd (omega arith)
-  in_flat_map f (c ∷ cs) x inside = elim (in_append (f c) (flat_map f cs) x inside) [
-    | inl here ↦ (c, Contains-head c cs, here)
-    | inr more ↦ let rest = in_flat_map f cs x more in (rest.0, Contains-tail c rest.0 cs rest.1, rest.2)
-  ]
 
   only_in : (x y : ℕ) → Contains (x ∷ []) y → x ≡ y
   only_in x y (zero, low, is) = is

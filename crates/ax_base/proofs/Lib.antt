@@ -4,7 +4,10 @@ pub mod Places
 pub mod AttributeNames
 pub mod CutCharacters
 pub mod Flattening
-pub mod KidsLaws
-pub mod Written
 pub mod Lookups
+pub mod SameLookups
 pub mod Repeats
+pub mod Joins
+pub mod KidsLaws
+pub mod Objects
+pub mod Written

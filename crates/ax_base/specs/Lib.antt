@@ -4,6 +4,7 @@ pub mod Quoting
 pub mod Attributes
 pub mod Recursion
 pub mod Document
+pub mod Texts
 pub mod Trees
 pub mod Roles
 pub mod Kids

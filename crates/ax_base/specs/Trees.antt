@@ -2,6 +2,7 @@
 use Rattle.std.specs.Prelude.{◌≡◌, ◌≢◌, ◌<◌, ◌≤◌, ℕ, suc, true, false, List, [], length, get_or}
 use Rattle.std.specs.List.Sorted.{IsStrictlyIncreasing}
 use Rattle.ax_base.specs.Document.{Document, root, has, ids, body, is_text, children, IsChild}
+use Rattle.ax_base.specs.Texts.{IsFitting}
 
 -- nothing stands at two places of a list
 abbrev pub HasNoRepeats : List ℕ → Type 0
@@ -23,3 +24,5 @@ pub record IsTree (d : Document) : Type 0 where
   pub once : (n : ℕ) → HasNoRepeats (children d n)
   pub bare : (n : ℕ) → is_text (body d n) ≡ true → children d n ≡ []
   pub rising : IsStrictlyIncreasing (ids d)
+  -- no text is too long
+  pub fits : (n : ℕ) → IsFitting (body d n)

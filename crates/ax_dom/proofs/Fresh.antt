@@ -2,11 +2,14 @@
 use Rattle.std.proofs.Common.{◌≡◌, ℕ, List, [], ◌∷◌, Bool, true, false, cond, Some, None, is_some, Contains, refl, sym, ap, subst, ◌∙◌, arith}
 use Rattle.std.specs.Option.{option_map_or}
 use Rattle.std.specs.Ordering.{nat_cmp}
+use Rattle.std.specs.Str.{chars}
 use Rattle.std.specs.BTreeMap.{insert_entry}
 use Rattle.std.proofs.lemmas.Bool.{false≢true}
 use Rattle.std.proofs.lemmas.Option.{same_Some}
 use Rattle.ax_base.specs.declared.body.Body.{Body}
-use Rattle.ax_base.specs.Document.{Document, Node, has, root, children, is_text, IsChild}
+use Rattle.ax_base.specs.declared.body.Body.TheVariants.{Element, Words}
+use Rattle.ax_base.specs.Document.{Document, Node, has, root, children, body, is_text, IsChild}
+use Rattle.ax_base.specs.Texts.{IsFitting}
 use Rattle.ax_base.specs.Trees.{IsTree}
 use Rattle.ax_base.proofs.Lookups.{finds, found_is}
 use Rattle.ax_base.proofs.Repeats.{no_repeats-nil}
@@ -42,6 +45,21 @@ module _ (b : Body) (element : is_text b ≡ false) where
       go true at there = found_is n 1 at
       go false at there = absurd (false≢true there)
 
+  element_fits : (x : Body) → is_text x ≡ false → IsFitting x
+  element_fits (Element tag attrs frame) is = tt
+  element_fits (Words chars runs) is = absurd (false≢true (sym is))
+
+  nothing_fits : IsFitting (Words [] [])
+  unfolding chars
+  nothing_fits = omega arith
+
+  fits : (n : ℕ) → IsFitting (body d n)
+  fits n = go (finds n 1)
+    where
+      go : (x : Bool) → IsFitting (option_map_or (λ (e : Node). e.body) (cond x (Some (record { body = b; children = [] })) None) (Words [] []))
+      go true = element_fits b element
+      go false = nothing_fits
+
   tree : IsTree d
   tree = record {
     level = λ _. 0;
@@ -56,6 +74,7 @@ module _ (b : Body) (element : is_text b ≡ false) where
     once = λ n. subst HasNoRepeats (sym (nothing_below n)) no_repeats-nil;
     bare = λ n text. nothing_below n;
     rising = λ k low. absurd (omega arith);
+    fits = fits;
   }
 
   root_kept : IsKept d es

@@ -2,7 +2,9 @@
 use Rattle.std.specs.Prelude.{◌≡◌, ◌≢◌, ◌<◌, ℕ, Bool, true, false, not, ◌||◌, ◌+◌, nat_eq, nat_lt, nat_le, length, ◌==◌, if◌then◌else◌, List, [], ◌∷◌, Option, Some, None}
 use Rattle.std.specs.List.{list_any}
 use Rattle.ax_base.specs.declared.attrs.Attr.{Attr}
+use Rattle.ax_base.specs.declared.body.Body.{Body}
 use Rattle.ax_base.specs.Document.{Document, root, has, depth, body, children, is_text}
+use Rattle.ax_base.specs.Texts.{IsFitting}
 use Rattle.ax_dom.specs.declared.cause.EditCause.{EditCause}
 use Rattle.ax_dom.specs.declared.cause.EditCause.TheVariants.{NoNode, UsedId, BadPlace, NotElement, TooDeep, TooMany, TooLong, NoMemory}
 use Rattle.ax_dom.specs.declared.edit.Edit.{Edit}
@@ -73,10 +75,11 @@ is_no_memory NoMemory = true
 is_no_memory _ = false
 
 -- what an insert that nothing refuses has
-pub record MayInsert (d : Document) (id into : ℕ) (before : Option ℕ) : Type 0 where
+pub record MayInsert (d : Document) (id into : ℕ) (before : Option ℕ) (b : Body) : Type 0 where
   pub known : has d into ≡ true
   pub apart : id ≢ root
   pub fresh : is_used d id ≡ false
   pub place : is_place d into before ≡ true
   pub element : is_text (body d into) ≡ false
   pub low : depth d into < 64
+  pub fits : IsFitting b

@@ -151,7 +151,7 @@ impl Dom {
         before: &Option<ObjId>,
         body: Body,
     ) -> Result<(), NoMemory>
-        requires { MayInsert self.old id into before.now }
+        requires { MayInsert self.old id into before.now body }
         ensures ok { OnOk result (self.new ≡ inserted self.old id into before.now body) }
         ensures err { OnErr result (self.new ≡ self.old) }
     {

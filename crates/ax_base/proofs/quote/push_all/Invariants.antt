@@ -1,4 +1,4 @@
-use Rattle.std.proofs.Common.{◌≡◌, ◌++◌, ◌∷◌, [], string_bytes}
+use Rattle.std.proofs.Common.{◌≡◌, ◌++◌, ◌∷◌, string_bytes}
 use Rattle.std.specs.List.{flat_map}
 use Rattle.ax_base.specs.Quoting.{quoted_char}
 use Rattle.ax_base.proofs.quote.push_all.Given as goal
