@@ -102,7 +102,8 @@ module _ (d : Document) (t : IsTree d) where
   pub record_is : (n : ℕ) → record_at (tree d) n ≡ cond (is_object d n) (Some (record_of d n)) None
   record_is n = lookup-made (record_of d) n (filter (is_object d) (ids d)) ∙ ap (λ b. cond b (Some (record_of d n)) None) (list_any-filter (is_object d) n (ids d) ∙ objects_among n)
 
-  has_is : (n : ℕ) → has_object (tree d) n ≡ is_object d n
+  -- whether the tree has an object of that id
+  pub has_is : (n : ℕ) → has_object (tree d) n ≡ is_object d n
   has_is n = ap is_some (record_is n) ∙ go (is_object d n)
     where
       go : (b : Bool) → is_some (cond b (Some (record_of d n)) None) ≡ b

@@ -1,0 +1,87 @@
+use Rattle.std.proofs.Common.{◌≡◌, ◌∙◌, ◌==◌, ◌++◌, true, false, Contains, sym, ap, subst, arith, append-nil}
+use Rattle.std.proofs.lemmas.Result.{on_ok_weaker}
+use Rattle.std.specs.List.{flat_map}
+use Rattle.ax_base.specs.Document.{IsChild, has, root, body, depth}
+use Rattle.ax_base.specs.Roles.{role_of}
+use Rattle.ax_base.specs.Kids.{kids, taken, objects, is_pruned, is_shut}
+use Rattle.ax_base.proofs.KidsLaws.{pruned-child}
+use Rattle.ax_base.proofs.Objects.{objects_known}
+use Rattle.ax_dom.specs.declared.cell.Cell.{Cell}
+use Rattle.ax_dom.specs.Slots.{cell_of}
+use Rattle.ax_record.specs.Records.{holder}
+use Rattle.ax_fresh.specs.Gathering.{with_records, put_order, AreKidsOf}
+use Rattle.ax_fresh.proofs.Gathered.{child_of, cell_is, descends, shut_kids, shut_by_role, more_kids, more_records, all_kids, all_put, hangs, taken_past, taken_self, kid_object, kid_parent, put_last}
+use Rattle.ax_fresh.proofs.walk.+walk.Goals as goal
+
+pub gather-gather_child-requires : goal.gather-gather_child-requires
+gather-gather_child-requires g t c κs within =
+    let d = c.args.dom.now in
+    let tree = c.children-child-items.ensures.tree in
+    let child : IsChild d c.args.node c.child-item.result = child_of d c.args.node c.loop-child.child-index _ _ c.children-child-items.ensures.value (omega arith) c.child-item.is in
+    let l = c.decreases in
+    let m = descends d tree c.args.node c.child-item.result child in
+    (omega arith, (within, (tree.known c.args.node c.child-item.result child, (pruned-child d tree c.args.node c.child-item.result child ∙ c.requires.visible, hangs d tree c.args.above c.args.node c.child-item.result child c.requires.hung))))
+
+pub gather-loop-child-preserved : goal.gather-loop-child-preserved
+gather-loop-child-preserved g t c =
+    let d = c.args.dom.now in
+    let tree = c.children-child-items.ensures.tree in
+    (more_kids d tree c.args.node c.loop-child.child-index c.child-item.result _ _ _ c.children-child-items.result.now (omega arith) c.child-item.is c.loop-child.invariant.0 c.in_ok-gather_child.ensures.kids,
+      more_records d tree c.args.node c.loop-child.child-index c.child-item.result _ _ _ c.children-child-items.result.now (omega arith) c.child-item.is c.loop-child.invariant.1 c.in_ok-gather_child.ensures.records)
+
+pub gather-returns-clause-kids : goal.gather-returns-clause-kids
+gather-returns-clause-kids g t c =
+    all_kids c.args.dom.now c.children-child-items.ensures.tree c.args.node c.loop-child.child-index _ _ c.children-child-items.result.now c.children-child-items.ensures.value c.loop-child-test.false c.loop-child.invariant.0
+
+pub gather-returns-clause-records : goal.gather-returns-clause-records
+gather-returns-clause-records g t c =
+    all_put c.args.dom.now c.children-child-items.ensures.tree c.args.node c.loop-child.child-index _ _ c.children-child-items.result.now c.children-child-items.ensures.value c.loop-child-test.false c.loop-child.invariant.1
+
+pub gather_child-gather_inside-requires : goal.gather_child-gather_inside-requires
+gather_child-gather_inside-requires g t c κs within =
+    let d = c.args.dom.now in
+    let tree = c.in-Some.ensures.tree in
+    let is_body : c.in-Some.cell.now.body ≡ body d c.args.child = ap (λ (x : Cell). x.body) (cell_is d c.args.child c.in-Some.cell.now c.in-Some.ensures.value) in
+    let gives : taken d c.args.child ≡ kids d c.args.child = taken_past d tree c.args.child c.in-Some.cell.now.body c.is_ignored.result is_body c.is_ignored.ensures c.if-is_ignored.true c.requires.visible in
+    let l = c.decreases in
+    (omega arith, (within, (tree, (c.requires.known, (c.is_pruning.ensures ∙ shut_by_role d tree c.args.child c.role_of-role.result c.in-Some.cell.now.body c.requires.known is_body c.role_of-role.ensures c.requires.visible, subst (AreKidsOf d c.args.above) gives c.requires.hung)))))
+
+pub gather_child-put_object-requires : goal.gather_child-put_object-requires
+gather_child-put_object-requires g t c κs within =
+    let d = c.args.dom.now in
+    let tree = c.in-Some.ensures.tree in
+    let cell = cell_is d c.args.child c.in-Some.cell.now c.in-Some.ensures.value in
+    let id_is : c.in-Some.cell.now.id ≡ c.args.child = ap (λ (x : Cell). x.id) cell in
+    let gives = taken_self d tree c.args.child c.in-Some.cell.now.body c.is_ignored.result (ap (λ (x : Cell). x.body) cell) c.is_ignored.ensures c.if-is_ignored.false c.requires.visible in
+    let l = c.decreases in
+    let m : depth d c.in-Some.cell.now.id ≡ depth d c.args.child = ap (depth d) id_is in
+    (omega arith, (within, (tree, (
+      subst (Contains (objects d)) (sym id_is) (kid_object d tree c.args.above c.args.child (taken d c.args.child) c.requires.hung gives), (
+      cell ∙ ap (cell_of d) (sym id_is), (
+      c.role_of-role.ensures ∙ ap (λ j. role_of (j == root) c.in-Some.cell.now.body) (sym id_is), (
+      ap (is_pruned d) id_is ∙ c.requires.visible,
+      kid_parent d tree c.args.above c.args.child (taken d c.args.child) c.requires.hung gives ∙ ap (holder d) (sym id_is))))))))
+
+pub gather_inside-returns-then-shut-clause-kids : goal.gather_inside-returns-then-shut-clause-kids
+gather_inside-returns-then-shut-clause-kids g t c =
+    let d = c.args.dom.now in
+    let none = shut_kids d c.requires.tree c.args.node (sym c.requires.shut ∙ c.if-shut.true) in
+    sym (ap (λ ks. c.args.found.now ++ ks) none ∙ append-nil c.args.found.now)
+
+pub gather_inside-returns-then-shut-clause-records : goal.gather_inside-returns-then-shut-clause-records
+gather_inside-returns-then-shut-clause-records g t c =
+    let d = c.args.dom.now in
+    let none = shut_kids d c.requires.tree c.args.node (sym c.requires.shut ∙ c.if-shut.true) in
+    sym (ap (λ ks. with_records d c.args.records.now (flat_map (put_order d) ks)) none)
+
+pub put_object-gather_inside-requires : goal.put_object-gather_inside-requires
+put_object-gather_inside-requires g t c κs within =
+    let d = c.args.dom.now in
+    let id = c.args.cell.now.id in
+    let there : has d id ≡ true = objects_known d c.requires.tree id c.requires.object in
+    let l = c.decreases in
+    (omega arith, (within, (c.requires.tree, (there, (c.is_pruning.ensures ∙ shut_by_role d c.requires.tree id c.args.role c.args.cell.now.body there (ap (λ (x : Cell). x.body) c.requires.cell) c.requires.role c.requires.visible, (c.requires.object, λ k inside. inside))))))
+
+pub put_object-returns : goal.put_object-returns
+put_object-returns g t c =
+    on_ok_weaker c.put.result (λ put. put_last c.args.dom.now c.requires.tree c.args.cell.now.id _ _ _ _ c.in_ok-gather_inside.ensures.records put c.in_ok-object.ensures) c.put.ensures.ok

@@ -1,0 +1,69 @@
+//! The trees of small documents.
+ghost use Rattle.std.specs.Prelude.{◌≡◌};
+
+use crate::build;
+use ax_base::{Attr, Attrs, ObjId, Role, Steps, Text};
+use ax_dom::{Dom, Edit};
+use ax_record::{FreshTree, TreeView};
+use std::alloc::Global;
+use std::marker::Brand;
+use std::process::Abort;
+use std::sync::ledger::{Blank, Ledger};
+use std::test::Fail;
+
+/// Inserts an element with a label, as the last child.
+fn insert(alloc: Global, dom: &mut Dom, id: u32, into: u32, tag: &str, label: &str) -> Result<(), Fail> {
+    let mut attrs = Attrs::new(alloc);
+    attrs.push(Attr {
+        name: Text::from_str(alloc, "aria-label")?,
+        value: Text::from_str(alloc, label)?,
+    })?;
+    dom.apply(
+        alloc,
+        &Edit::InsertElement {
+            id: ObjId(id),
+            into: ObjId(into),
+            before: None,
+            tag: Text::from_str(alloc, tag)?,
+            attrs,
+        },
+    )?;
+    Ok(())
+}
+
+#[test]
+fn ignored_elements_give_their_kids(rt: HostRuntime) -> Result<(), Fail> {
+    let alloc = rt.alloc();
+    let mut dom = Dom::new(alloc)?;
+    insert(alloc, &mut dom, 7, 1, "main", " two  words ")?;
+    insert(alloc, &mut dom, 5, 7, "div", "")?;
+    insert(alloc, &mut dom, 3, 5, "button", "Save")?;
+    insert(alloc, &mut dom, 4, 3, "article", "")?;
+    look::<Brand>(&rt, &dom, Blank::new(1))
+}
+
+fn look<L: Ledger>(rt: &HostRuntime, dom: &Dom, blank: Blank) -> Result<(), Fail>
+    requires name { blank.name ≡ L.name }
+    requires parts { blank.parts ≡ L.parts }
+    requires whole { blank.parts ≡ 1 }
+{
+    let (book, share) = blank.open::<L>();
+    let mut steps = Steps::new(book, share);
+    let tree = build(rt.alloc(), dom, &mut steps)?;
+    assert_eq!(rt; tree.root(), ObjId(1));
+    assert_eq!(rt; tree.focus(), None);
+    assert!(rt; tree.find(ObjId(5)).is_none() && tree.find(ObjId(4)).is_none());
+    assert!(rt; hangs(&tree, 7, 1, Role::Main, "two words"));
+    assert!(rt; hangs(&tree, 3, 7, Role::Button, "Save"));
+    Ok(())
+}
+
+/// Whether an object hangs on another, and has a role and a name.
+fn hangs(tree: &FreshTree, id: u32, parent: u32, role: Role, name: &str) -> bool {
+    match tree.find(ObjId(id)) {
+        Some(found) => {
+            found.parent == Some(ObjId(parent)) && found.role == role && found.name.is(name)
+        }
+        None => false,
+    }
+}
