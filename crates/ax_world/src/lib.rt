@@ -7,9 +7,12 @@ ghost use Rattle.ax_base.specs.declared.ids.Who.{Who};
 ghost use Rattle.ax_world.specs.Legal.{IsLegalSoFar, IsLegal};
 ghost use Rattle.ax_world.specs.Machine.{start, after_turns, alternate, lines_done, IsOver, played};
 
+mod page;
 mod turns;
+mod world;
 
 pub use turns::Turn;
+pub use world::{World, replay};
 
 /// After every list of turns the page has published no more than it may, and the client's entries are legal.
 ///
