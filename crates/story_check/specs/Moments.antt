@@ -1,8 +1,11 @@
--- The documents of a story's moments.
-use Rattle.std.specs.Prelude.{ℕ, zero, suc, List, [], ◌∷◌}
+-- The documents of a story's moments, their trees, and whether each edit is accepted.
+use Rattle.std.specs.Prelude.{◌≡◌, ℕ, zero, suc, List, [], ◌∷◌, None}
 use Rattle.ax_base.specs.Document.{Document}
 use Rattle.ax_dom.specs.declared.edit.Edit.{Edit}
 use Rattle.ax_dom.specs.Changes.{edited, new_document}
+use Rattle.ax_dom.specs.Refusals.{edit_cause}
+use Rattle.ax_record.specs.Tree.{Tree}
+use Rattle.ax_record.specs.Records.{tree}
 use Rattle.story_check.specs.declared.story.PageLine.{PageLine}
 use Rattle.story_check.specs.declared.story.PageLine.TheVariants.{Change, Flush, Until}
 use Rattle.story_check.specs.Stories.{Script}
@@ -23,3 +26,24 @@ after_flushes d (Until j ∷ xs) (suc k) = after_flushes d xs (suc k)
 -- the document of a moment: after the edits before the start, and all edits before that flush
 unfoldable pub document_at : Script → ℕ → Document
 document_at s k = after_flushes (after_edits new_document s.base) s.page k
+
+-- the tree of a moment
+unfoldable pub tree_at : Script → ℕ → Tree
+tree_at s k = tree (document_at s k)
+
+-- each of these edits is accepted, one after another
+abbrev pub AreAccepted : Document → List Edit → Type 0
+AreAccepted d [] = Unit {0}
+AreAccepted d (e ∷ es) = (edit_cause d e ≡ None) × AreAccepted (edited d e) es
+
+-- each edit of these lines is accepted, one after another
+abbrev pub AreLinesAccepted : Document → List PageLine → Type 0
+AreLinesAccepted d [] = Unit {0}
+AreLinesAccepted d (Change e ∷ xs) = (edit_cause d e ≡ None) × AreLinesAccepted (edited d e) xs
+AreLinesAccepted d (Flush ∷ xs) = AreLinesAccepted d xs
+AreLinesAccepted d (Until k ∷ xs) = AreLinesAccepted d xs
+
+-- every edit of a story is accepted
+pub record IsAccepted (s : Script) : Type 0 where
+  pub base : AreAccepted new_document s.base
+  pub lines : AreLinesAccepted (after_edits new_document s.base) s.page

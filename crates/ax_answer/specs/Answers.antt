@@ -1,0 +1,69 @@
+-- What a tree answers to a request (Core Accessibility API Mappings 1.2, section 5: mapping WAI-ARIA to accessibility APIs).
+use Rattle.std.specs.Prelude.{ℕ, ◌-◌, ◌^◌, min, Bool, true, false, List, length, take, drop, Option, Some, None}
+use Rattle.std.specs.Option.{option_map_or}
+use Rattle.ax_base.specs.Document.{root}
+use Rattle.ax_ask.specs.declared.requests.Request.{Request}
+use Rattle.ax_ask.specs.declared.requests.Request.TheVariants.{Root, Focus, Role, Name, Description, Value, States, Level, Live, Frame, Parent, Children, Compare, NextChar, PrevChar, NextWord, LineAt, TextOf, BoundsOf, Search, Hit}
+use Rattle.ax_ask.specs.declared.replies.Reply.{Reply}
+use Rattle.ax_ask.specs.declared.replies.Reply.TheVariants.{Stale, Nothing, Root as TheRoot, Focus as TheFocus, Role as TheRole, Name as TheName, Description as TheDescription, Value as TheValue, States as TheStates, Level as TheLevel, Live as TheLive, Frame as TheFrame, Parent as TheParent, Children as TheChildren}
+use Rattle.ax_record.specs.declared.record.Record.{Record}
+use Rattle.ax_record.specs.Tree.{Tree, record_at}
+
+-- the requests that are answered: those about the root, the focus and an object; those about markers, places and searches are not yet
+abbrev pub is_answered : Request → Bool
+is_answered (Compare a b) = false
+is_answered (NextChar at) = false
+is_answered (PrevChar at) = false
+is_answered (NextWord at) = false
+is_answered (LineAt at) = false
+is_answered (TextOf from to) = false
+is_answered (BoundsOf from to) = false
+is_answered (Search r) = false
+is_answered (Hit x y) = false
+is_answered _ = true
+
+-- the object that a request is about
+abbrev pub asked_object : Request → Option ℕ
+asked_object (Role id) = Some id
+asked_object (Name id) = Some id
+asked_object (Description id) = Some id
+asked_object (Value id) = Some id
+asked_object (States id) = Some id
+asked_object (Level id) = Some id
+asked_object (Live id) = Some id
+asked_object (Frame id) = Some id
+asked_object (Parent id) = Some id
+asked_object (Children id from) = Some id
+asked_object _ = None
+
+-- how many children there are, up to the greatest number that is told
+abbrev pub count_of : List ℕ → ℕ
+count_of kids = min (length kids) (2 ^ 32 - 1)
+
+-- the children from a place on, counted from 0, up to 256 of them
+abbrev pub children_from : ℕ → List ℕ → List ℕ
+children_from from kids = take 256 (drop from kids)
+
+-- what the record of an object answers to a request about it
+abbrev pub answer_of : Record → Request → Reply
+answer_of r (Role id) = TheRole r.role
+answer_of r (Name id) = TheName r.name
+answer_of r (Description id) = TheDescription r.description
+answer_of r (Value id) = option_map_or TheValue r.value Nothing
+answer_of r (States id) = TheStates r.states
+answer_of r (Level id) = option_map_or TheLevel r.level Nothing
+answer_of r (Live id) = TheLive r.live
+answer_of r (Frame id) = TheFrame r.frame
+answer_of r (Parent id) = option_map_or TheParent r.parent Nothing
+answer_of r (Children id from) = TheChildren (count_of r.kids) (children_from from r.kids)
+answer_of r _ = Nothing
+
+-- what a tree answers to a request that is about no object of its own
+abbrev pub answer_whole : Tree → Request → Reply
+answer_whole t Root = TheRoot root
+answer_whole t Focus = option_map_or TheFocus t.focus Nothing
+answer_whole t _ = Nothing
+
+-- what a tree answers: about an object it is stale exactly where the tree lacks it
+abbrev pub answer : Tree → Request → Reply
+answer t q = option_map_or (λ id. option_map_or (λ r. answer_of r q) (record_at t id) Stale) (asked_object q) (answer_whole t q)

@@ -1,0 +1,103 @@
+//! The answer to a request.
+ghost use Rattle.std.specs.Prelude.{◌≡◌, IfOk, IsTrue};
+ghost use Rattle.ax_answer.specs.Answers.{is_answered, asked_object, answer_of, answer_whole, answer, count_of, children_from};
+
+use ax_ask::{Reply, Request};
+use ax_base::{Ids, NoMemory, ObjId};
+use ax_record::{Record, TreeView};
+use std::alloc::Global;
+
+/// What a tree answers to a request about its root, its focus or an object. About an object it answers `Stale` exactly
+/// where the tree lacks it. The only error is want of memory for a copy of a text or of ids.
+pub fn answer<T: TreeView>(alloc: Global, t: &T, q: &Request) -> Result<Reply, NoMemory>
+    requires { IsTrue (is_answered q.now) }
+    ensures { IfOk result (λ r. r ≡ answer (T.tree t.now) q.now) }
+{
+    let Some(id) = asked_object(q) else {
+        return Ok(answer_whole(t, q));
+    };
+    match t.find(id) {
+        None => Ok(Reply::Stale),
+        Some(object) => answer_of(alloc, object, q),
+    }
+}
+
+/// The object that a request is about.
+fn asked_object(q: &Request) -> Option<ObjId>
+    ensures { result ≡ asked_object q.now }
+{
+    match q {
+        Request::Role(id)
+        | Request::Name(id)
+        | Request::Description(id)
+        | Request::Value(id)
+        | Request::States(id)
+        | Request::Level(id)
+        | Request::Live(id)
+        | Request::Frame(id)
+        | Request::Parent(id)
+        | Request::Children(id, _) => Some(*id),
+        _ => None,
+    }
+}
+
+/// What a tree answers to a request that is about no object of its own.
+fn answer_whole<T: TreeView>(t: &T, q: &Request) -> Reply
+    ensures { result ≡ answer_whole (T.tree t.now) q.now }
+{
+    match q {
+        Request::Root => Reply::Root(t.root()),
+        Request::Focus => match t.focus() {
+            Some(id) => Reply::Focus(id),
+            None => Reply::Nothing,
+        },
+        _ => Reply::Nothing,
+    }
+}
+
+/// What the record of an object answers to a request about it.
+fn answer_of(alloc: Global, object: &Record, q: &Request) -> Result<Reply, NoMemory>
+    ensures { IfOk result (λ r. r ≡ answer_of object.now q.now) }
+{
+    Ok(match q {
+        Request::Role(_) => Reply::Role(object.role),
+        Request::Name(_) => Reply::Name(object.name.copy(alloc)?),
+        Request::Description(_) => Reply::Description(object.description.copy(alloc)?),
+        Request::Value(_) => match &object.value {
+            Some(value) => Reply::Value(value.copy(alloc)?),
+            None => Reply::Nothing,
+        },
+        Request::States(_) => Reply::States(object.states),
+        Request::Level(_) => match object.level {
+            Some(level) => Reply::Level(level),
+            None => Reply::Nothing,
+        },
+        Request::Live(_) => Reply::Live(object.live),
+        Request::Frame(_) => Reply::Frame(object.frame),
+        Request::Parent(_) => match object.parent {
+            Some(id) => Reply::Parent(id),
+            None => Reply::Nothing,
+        },
+        Request::Children(_, from) => {
+            let kids = object.kids.as_slice();
+            Reply::Children(count_of(kids), children_from(alloc, kids, *from)?)
+        }
+        _ => Reply::Nothing,
+    })
+}
+
+/// How many children there are, up to the greatest number that is told.
+fn count_of(kids: &[ObjId]) -> u32
+    ensures { result ≡ count_of kids.now }
+{
+    u32::try_from(kids.len()).unwrap_or(u32::MAX)
+}
+
+/// The children from a place on, counted from 0, up to 256 of them.
+fn children_from(alloc: Global, kids: &[ObjId], from: u32) -> Result<Ids, NoMemory>
+    ensures { IfOk result (λ ids. ids ≡ children_from from kids.now) }
+{
+    let rest = &kids[kids.len().min(from as usize)..];
+    let shown = &rest[..rest.len().min(256)];
+    Ok(Ids::from_vec(Vec::from_slice(alloc, shown)?))
+}

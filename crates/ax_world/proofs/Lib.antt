@@ -1,0 +1,6 @@
+mod Standing
+mod Playing
+mod Rounds
+mod ClientTurns
+mod Kept
+mod PageTurns

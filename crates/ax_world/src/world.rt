@@ -1,0 +1,296 @@
+//! The core on one thread.
+ghost use Rattle.std.specs.Prelude.{◌≡◌, ℕ, ◌+◌, ◌↔◌, ◌≤◌, ◌<◌, IfOk, IsTrue, Some, slice_get, length, false};
+ghost use Rattle.story_check.specs.declared.story.PageLine.TheVariants.{Change, Flush, Until};
+ghost use Rattle.story_check.specs.Stories.{Script, flushes, stuck};
+ghost use Rattle.story_check.specs.Moments.{IsAccepted};
+ghost use Rattle.ax_answer.specs.Answers.{is_answered};
+ghost use Rattle.ax_ask.specs.declared.transcripts.EntryBody.TheVariants.{Reply as ReplyBody};
+ghost use Rattle.ax_world.specs.Moments.{answer_at, AreAnswered, notices_of};
+ghost use Rattle.ax_world.specs.Machine.{start, step, page_step, client_step, printed, IsOver, played};
+ghost use Rattle.ax_world.specs.Worlds.{Gives};
+
+use crate::Turn;
+use crate::page::{change, document_of, tree_of};
+use ax_answer::answer;
+use ax_ask::{Entries, Entry, EntryBody, Reply, Request, Transcript};
+use ax_base::{Moment, NoMemory, Notices, Who};
+use ax_dom::{Dom, Edit};
+use ax_record::FreshTree;
+use std::alloc::Global;
+use std::marker::Model;
+use std::snapshot::Snapshot;
+use story_check::{ClientLine, PageLine, Story};
+
+/// The core between two turns: what the page and the client keep. A clause sees it as the story and the machine's state.
+#[derive(Drop)]
+pub struct World {
+    story: Snapshot<Story>,
+    count: u32,
+    page_done: usize,
+    client_done: usize,
+    published: u32,
+    taken: u32,
+    bell: u32,
+    noticed: u32,
+    entries: Entries,
+    document: Dom,
+    waiting: Option<FreshTree>,
+    mine: FreshTree,
+}
+
+impl Model for World {
+    ghost use Rattle.std.specs.Prelude.{◌≡◌};
+    ghost use Rattle.story_check.specs.Stories.{flushes};
+    ghost use Rattle.ax_world.specs.Worlds.{Play, IsKept};
+
+    ghost Value = { Play };
+
+    ghost view = { λ w. record { story = w.story.value; state = record { page_done = w.page_done; client_done = w.client_done; published = w.published; taken = w.taken; bell = w.bell; noticed = w.noticed; entries = w.entries } } };
+
+    ghost invariant = { λ w. IsKept w.story.value (record { page_done = w.page_done; client_done = w.client_done; published = w.published; taken = w.taken; bell = w.bell; noticed = w.noticed; entries = w.entries }) w.document w.waiting w.mine × (w.count ≡ flushes w.story.value.page) };
+}
+
+impl World {
+    /// The core at moment 0, for a story whose edits are all accepted and whose requests are all answered.
+    pub fn new(alloc: Global, story: &Story) -> Result<World, NoMemory>
+        requires accepted { IsAccepted story.now }
+        requires answered { AreAnswered story.now.client }
+        ensures { IfOk result (λ w. w ≡ record { story = story.now; state = start }) }
+    {
+        let document = document_of(alloc, story.base())?;
+        let mine = tree_of(alloc, &document)?;
+        Ok(World {
+            story: Snapshot::of(story),
+            count: story.flushes(),
+            page_done: 0,
+            client_done: 0,
+            published: 0,
+            taken: 0,
+            bell: 0,
+            noticed: 0,
+            entries: Entries::new(alloc),
+            document,
+            waiting: None,
+            mine,
+        })
+    }
+
+    /// One turn of a side of the story that the core was made for. The only error is want of memory, and then the core is
+    /// given up.
+    pub fn turn(self, alloc: Global, story: &Story, who: Who) -> Result<(World, Turn), NoMemory>
+        requires { self.story ≡ story.now }
+        ensures { IfOk result (Gives self (step story.now self.state who)) }
+    {
+        match who {
+            Who::Page => self.page_turn(alloc, story),
+            Who::Client => self.client_turn(alloc, story),
+        }
+    }
+
+    /// One turn of the page.
+    #[tactic(auto, using(std::proofs::lemmas::Bool::Decides::nat_tests))]
+    fn page_turn(self, alloc: Global, story: &Story) -> Result<(World, Turn), NoMemory>
+        requires { self.story ≡ story.now }
+        ensures { IfOk result (Gives self (page_step self.state (slice_get story.now.page self.state.page_done))) }
+    {
+        let page = story.page();
+        if self.page_done >= page.len() {
+            return Ok((self, Turn::Done));
+        }
+        let done = self.page_done + 1;
+        match &page[self.page_done] {
+            PageLine::Change(edit) => Ok((self.changed(alloc, done, edit)?, Turn::Did)),
+            PageLine::Flush => Ok((self.flushed(alloc, done)?, Turn::Did)),
+            PageLine::Until(need) => {
+                let (need, have) = (*need, Moment(self.taken));
+                if need.number() <= have.number() {
+                    Ok((self.passed(done, need), Turn::Did))
+                } else {
+                    Ok((self, Turn::Waiting { need, have }))
+                }
+            }
+        }
+    }
+
+    /// The page does an edit.
+    fn changed(self, alloc: Global, done: usize, edit: &Edit) -> Result<World, NoMemory>
+        requires line { slice_get self.story.page self.state.page_done ≡ Some (Change edit.now) }
+        requires done { done ≡ self.state.page_done + 1 }
+        ensures { IfOk result (λ w. w ≡ record { story = self.story; state = record self.state { page_done = done } }) }
+    {
+        let mut document = self.document;
+        change(alloc, &mut document, edit)?;
+        Ok(World {
+            page_done: done,
+            document,
+            ..self
+        })
+    }
+
+    /// The page publishes one more moment.
+    fn flushed(self, alloc: Global, done: usize) -> Result<World, NoMemory>
+        requires few { flushes self.story.page ≤ 65537 }
+        requires line { slice_get self.story.page self.state.page_done ≡ Some Flush }
+        requires done { done ≡ self.state.page_done + 1 }
+        ensures { IfOk result (λ w. w ≡ record { story = self.story; state = record self.state { page_done = done; published = self.state.published + 1 } }) }
+    {
+        let shown = tree_of(alloc, &self.document)?;
+        let published = self.published + 1;
+        Ok(World {
+            page_done: done,
+            published,
+            waiting: Some(shown),
+            ..self
+        })
+    }
+
+    /// The page goes on after a wait that is met.
+    fn passed(self, done: usize, need: Moment) -> World
+        requires line { slice_get self.story.page self.state.page_done ≡ Some (Until need) }
+        requires done { done ≡ self.state.page_done + 1 }
+        ensures { result ≡ record { story = self.story; state = record self.state { page_done = done } } }
+    {
+        let _met = need;
+        World {
+            page_done: done,
+            ..self
+        }
+    }
+
+    /// One turn of the client.
+    #[tactic(auto, using(std::proofs::lemmas::Bool::Decides::nat_tests))]
+    fn client_turn(self, alloc: Global, story: &Story) -> Result<(World, Turn), NoMemory>
+        requires { self.story ≡ story.now }
+        ensures { IfOk result (Gives self (client_step story.now self.state (slice_get story.now.client self.state.client_done))) }
+    {
+        let client = story.client();
+        if self.client_done >= client.len() {
+            return Ok((self, Turn::Done));
+        }
+        match &client[self.client_done] {
+            ClientLine::Ask(request) => Ok((self.take().replied(alloc, request)?, Turn::Did)),
+            ClientLine::Again(request) => Ok((self.replied(alloc, request)?, Turn::Did)),
+            ClientLine::Hear => {
+                let bell = self.published;
+                let world = self.printed(bell, EntryBody::Hear)?;
+                Ok((World { bell, ..world }, Turn::Did))
+            }
+            ClientLine::Await(need) => {
+                let (need, have) = (*need, Moment(self.published));
+                if need.number() <= have.number() {
+                    let world = self.take().printed(have.number(), EntryBody::Await)?;
+                    Ok((world, Turn::Did))
+                } else {
+                    Ok((self, Turn::Waiting { need, have }))
+                }
+            }
+            ClientLine::Notices => {
+                let noticed = self.taken;
+                let world = self.printed(noticed, EntryBody::Notices(no_notices(alloc)))?;
+                Ok((World { noticed, ..world }, Turn::Did))
+            }
+        }
+    }
+
+    /// The client takes all that is published.
+    fn take(self) -> World
+        ensures { result ≡ record { story = self.story; state = record self.state { taken = self.state.published } } }
+    {
+        let mine = self.waiting.unwrap_or(self.mine);
+        World {
+            taken: self.published,
+            waiting: None,
+            mine,
+            ..self
+        }
+    }
+
+    /// What the client's tree answers.
+    fn reply(&self, alloc: Global, request: &Request) -> Result<Reply, NoMemory>
+        requires { IsTrue (is_answered request.now) }
+        ensures { IfOk result (λ r. r ≡ answer_at self.now.story self.now.state.taken request.now) }
+    {
+        answer(alloc, &self.mine, request)
+    }
+
+    /// The client prints an answer from its tree, for its next line.
+    fn replied(self, alloc: Global, request: &Request) -> Result<World, NoMemory>
+        requires few { length self.story.client ≤ 16384 }
+        requires line { self.state.client_done < length self.story.client }
+        requires answered { IsTrue (is_answered request.now) }
+        ensures { IfOk result (λ w. w ≡ record { story = self.story; state = printed self.state self.state.taken (ReplyBody (answer_at self.story self.state.taken request.now)) }) }
+    {
+        let reply = self.reply(alloc, request)?;
+        let moment = self.taken;
+        self.printed(moment, EntryBody::Reply(reply))
+    }
+
+    /// The client prints an entry for its next line.
+    fn printed(self, moment: u32, body: EntryBody) -> Result<World, NoMemory>
+        requires few { length self.story.client ≤ 16384 }
+        requires line { self.state.client_done < length self.story.client }
+        ensures { IfOk result (λ w. w ≡ record { story = self.story; state = printed self.state moment body }) }
+    {
+        let done = self.client_done + 1;
+        let mut entries = self.entries;
+        entries.push(Entry {
+            number: done as u32,
+            moment: Moment(moment),
+            body,
+        })?;
+        Ok(World {
+            client_done: done,
+            entries,
+            ..self
+        })
+    }
+
+    /// Whether no side has a line left.
+    pub fn is_over(&self, story: &Story) -> bool
+        requires { self.now.story ≡ story.now }
+        ensures { IsTrue result ↔ IsOver story.now self.now.state }
+    {
+        self.page_done == story.page().len() && self.client_done == story.client().len()
+    }
+
+    /// The entries so far, with the number of flushes of the story. It takes no memory.
+    pub fn into_transcript(self) -> Transcript
+        ensures entries { result.entries ≡ self.state.entries }
+        ensures flushes { result.flushes ≡ flushes self.story.page }
+    {
+        Transcript {
+            entries: self.entries,
+            flushes: self.count,
+        }
+    }
+}
+
+/// No notices are told yet.
+#[tactic(auto, unfolding(crate::specs::Moments::notices_of))]
+fn no_notices(alloc: Global) -> Notices
+    ensures { (s : Script) (t p : ℕ) → result ≡ notices_of s t p }
+{
+    Notices::new(alloc)
+}
+
+/// Plays a story that is not stuck: its turns, and then alternate turns until both sides are done. All its edits are
+/// accepted, and all its requests answered. The only error is want of memory.
+pub fn replay(alloc: Global, story: &Story) -> Result<Transcript, NoMemory>
+    requires free { stuck story.now ≡ false }
+    requires accepted { IsAccepted story.now }
+    requires answered { AreAnswered story.now.client }
+    ensures entries { IfOk result (λ t. t.entries ≡ (played story.now).entries) }
+    ensures flushes { IfOk result (λ t. t.flushes ≡ flushes story.now.page) }
+{
+    let mut world = World::new(alloc, story)?;
+    for who in story.turns() {
+        let (next, _) = world.turn(alloc, story, *who)?;
+        world = next;
+    }
+    'rounds: while !world.is_over(story) {
+        let (after_page, _) = world.turn(alloc, story, Who::Page)?;
+        let (after_client, _) = after_page.turn(alloc, story, Who::Client)?;
+        world = after_client;
+    }
+    Ok(world.into_transcript())
+}
