@@ -38,6 +38,18 @@ fn insert(
     Ok(())
 }
 
+/// Inserts a text, as the last child.
+fn say(alloc: Global, dom: &mut Dom, id: u32, into: u32, chars: &str) -> Result<(), Fail> {
+    let text = Edit::InsertText {
+        id: ObjId(id),
+        into: ObjId(into),
+        before: None,
+        chars: Text::from_str(alloc, chars)?,
+    };
+    dom.apply(alloc, &text)?;
+    Ok(())
+}
+
 #[test]
 fn ignored_elements_give_their_kids(rt: HostRuntime) -> Result<(), Fail> {
     let alloc = rt.alloc();
@@ -46,6 +58,11 @@ fn ignored_elements_give_their_kids(rt: HostRuntime) -> Result<(), Fail> {
     insert(alloc, &mut dom, 5, 7, "div", "")?;
     insert(alloc, &mut dom, 3, 5, "button", "Save")?;
     insert(alloc, &mut dom, 4, 3, "article", "")?;
+    insert(alloc, &mut dom, 9, 5, "button", " ")?;
+    say(alloc, &mut dom, 10, 9, "Save ")?;
+    say(alloc, &mut dom, 11, 9, "all")?;
+    say(alloc, &mut dom, 12, 5, "Hi")?;
+    say(alloc, &mut dom, 13, 5, "  ")?;
     look::<Brand>(&rt, alloc, &dom, Blank::new(1))
 }
 
@@ -62,6 +79,9 @@ fn look<L: Ledger>(rt: &impl Abort, alloc: Global, dom: &Dom, blank: Blank) -> R
     assert!(rt; tree.find(ObjId(5)).is_none() && tree.find(ObjId(4)).is_none());
     assert!(rt; hangs(&tree, 7, 1, Role::Main, "two words"));
     assert!(rt; hangs(&tree, 3, 7, Role::Button, "Save"));
+    assert!(rt; hangs(&tree, 9, 7, Role::Button, "Save all"));
+    assert!(rt; hangs(&tree, 12, 7, Role::Text, "Hi"));
+    assert!(rt; tree.find(ObjId(10)).is_none() && tree.find(ObjId(13)).is_none());
     Ok(())
 }
 
