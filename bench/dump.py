@@ -8,14 +8,9 @@ of axcore over that of python3 (the least of five runs each), the peak memory of
 """
 import json
 import os
-import resource
-import subprocess
 import sys
-import tempfile
-import time
 
-RUNS = 5
-READER = "import json,sys\nfor line in sys.stdin.buffer:\n    json.loads(line)\n"
+from timing import python_reading, run, story
 
 
 def insert(id, into, tag, label):
@@ -44,21 +39,6 @@ def long_labels(size):
         k += 1
 
 
-def run(words, story):
-    """The least wall time of some runs in seconds, and the peak memory of the last in bytes."""
-    best = None
-    for _ in range(RUNS):
-        with open(story, "rb") as source:
-            start = time.perf_counter()
-            child = subprocess.Popen(words, stdin=source, stdout=subprocess.DEVNULL)
-            _, status, usage = os.wait4(child.pid, 0)
-            took = time.perf_counter() - start
-        if status != 0:
-            sys.exit("%s: status %d" % (words[0], os.waitstatus_to_exitcode(status)))
-        best = took if best is None else min(best, took)
-    return best, usage.ru_maxrss * 1024
-
-
 def main():
     if len(sys.argv) != 2:
         sys.exit(__doc__)
@@ -69,14 +49,12 @@ def main():
         ("16 MiB of long labels", long_labels(1 << 24)),
     ]
     for title, lines in stories:
-        with tempfile.NamedTemporaryFile("w", suffix=".story") as story:
-            story.write("\n".join(lines) + '\n{"start":1}\n')
-            story.flush()
-            size = os.path.getsize(story.name)
-            mine, memory = run([program, "dump"], story.name)
-            python, _ = run([sys.executable, "-c", READER], story.name)
+        with story(lines + ['{"start":1}']) as file:
+            size = os.path.getsize(file.name)
+            mine, python = run([program, "dump"], file.name), python_reading(file.name)
             print("%-36s time %.2f of python3's (%.0f ms, %.0f ms), memory %.1f times the story (%.1f MB)"
-                  % (title, mine / python, mine * 1000, python * 1000, memory / size, size / 1e6))
+                  % (title, mine.seconds / python.seconds, mine.seconds * 1000, python.seconds * 1000,
+                     mine.memory / size, size / 1e6))
 
 
 if __name__ == "__main__":
