@@ -15,10 +15,10 @@ REFUSED = 2
 
 
 def edits(count):
-    """Edits of the one label, and a last line that is no line form."""
+    """Edits, and a last line that is no line form."""
     yield '{"start":1}'
     for k in range(count):
-        yield '{"set":1,"name":"aria-label","value":"%d"}' % k
+        yield '{"focus":%d}' % (k % 2)
     yield "{}"
 
 
