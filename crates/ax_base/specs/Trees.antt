@@ -1,5 +1,5 @@
 -- Documents that are trees.
-use Rattle.std.specs.Prelude.{◌≡◌, ◌≢◌, ◌<◌, ◌≤◌, ℕ, suc, true, false, List, [], length, get_or}
+use Rattle.std.specs.Prelude.{◌≡◌, ◌≢◌, ◌<◌, ◌≤◌, ℕ, suc, true, false, Some, List, [], length, get_or}
 use Rattle.std.specs.List.Sorted.{IsStrictlyIncreasing}
 use Rattle.ax_base.specs.Document.{Document, root, has, ids, body, is_text, children, IsChild}
 
@@ -7,7 +7,7 @@ use Rattle.ax_base.specs.Document.{Document, root, has, ids, body, is_text, chil
 abbrev pub HasNoRepeats : List ℕ → Type 0
 HasNoRepeats xs = (i j : ℕ) → i < length xs → j < length xs → get_or xs i 0 ≡ get_or xs j 0 → i ≡ j
 
--- Each node hangs on the root, in one place, at most 64 levels below it; texts have no children; ids rise.
+-- Each node hangs on the root, in one place, at most 64 levels below it; texts have no children; ids rise; a focused node is there.
 pub record IsTree (d : Document) : Type 0 where
   -- how far a node is below the root
   pub level : ℕ → ℕ
@@ -23,3 +23,4 @@ pub record IsTree (d : Document) : Type 0 where
   pub once : (n : ℕ) → HasNoRepeats (children d n)
   pub bare : (n : ℕ) → is_text (body d n) ≡ true → children d n ≡ []
   pub rising : IsStrictlyIncreasing (ids d)
+  pub focused : (n : ℕ) → d.focus ≡ Some n → has d n ≡ true

@@ -14,7 +14,7 @@ use Rattle.ax_base.proofs.Shapes.{HasShapeOf, parent_same, depth_same, tree_same
 use Rattle.ax_dom.specs.declared.cell.Cell.{Cell}
 use Rattle.ax_dom.specs.declared.cell.Slot.{Slot}
 use Rattle.ax_dom.specs.declared.edit.Edit.{Edit}
-use Rattle.ax_dom.specs.declared.edit.Edit.TheVariants.{InsertElement, InsertText, Chars, Set}
+use Rattle.ax_dom.specs.declared.edit.Edit.TheVariants.{InsertElement, InsertText, Chars, Set, Unset, SetRuns, Frame, Focus}
 use Rattle.ax_dom.specs.Slots.{cell_of, slot_at, nodes_of, document_of, IsKept}
 use Rattle.ax_dom.specs.Bodies.{body_after, slot_after}
 use Rattle.ax_dom.specs.Changes.{with_body}
@@ -29,6 +29,13 @@ kind_stays (Chars id chars) (Element tag attrs frame) = refl
 kind_stays (Chars id chars) (Words old runs) = refl
 kind_stays (Set id name value) (Element tag attrs frame) = refl
 kind_stays (Set id name value) (Words chars runs) = refl
+kind_stays (Unset id name) (Element tag attrs frame) = refl
+kind_stays (Unset id name) (Words chars runs) = refl
+kind_stays (SetRuns id new) (Element tag attrs frame) = refl
+kind_stays (SetRuns id new) (Words chars runs) = refl
+kind_stays (Frame id rect) (Element tag attrs frame) = refl
+kind_stays (Frame id rect) (Words chars runs) = refl
+kind_stays (Focus id) b = refl
 
 -- another body of the same kind keeps the shape
 module _ (d : Document) (n : ℕ) (b : Body) (there : has d n ≡ true) (kind : is_text b ≡ is_text (body d n)) where
@@ -115,7 +122,7 @@ module _ (es : List (ℕ × Slot)) (focus : Option ℕ) (used : List ℕ) (kept 
 
   kept_is : IsKept (document_of fs focus used) fs
   kept_is = subst (λ x. IsKept x fs) (sym document_is) (record {
-    tree = tree_same d after (shape_amended d n b there (kind_stays edit (body d n))) kept.tree;
+    tree = tree_same d after (shape_amended d n b there (kind_stays edit (body d n))) kept.tree (λ q some. (shape_amended d n b there (kind_stays edit (body d n))).has_same q ∙ kept.tree.focused q some);
     cells = cells_are;
     marked = λ q has_q top. kept.marked q (sym ((shape_amended d n b there (kind_stays edit (body d n))).has_same q) ∙ has_q) top;
   })

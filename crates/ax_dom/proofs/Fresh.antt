@@ -56,6 +56,7 @@ module _ (b : Body) (element : is_text b ≡ false) where
     once = λ n. subst HasNoRepeats (sym (nothing_below n)) no_repeats-nil;
     bare = λ n text. nothing_below n;
     rising = λ k low. absurd (omega arith);
+    focused = λ n some. cc;
   }
 
   root_kept : IsKept d es

@@ -168,6 +168,7 @@ module _ (d : Document) (t : IsTree d) (id into : ℕ) (before : Option ℕ) (b 
     once = once_after;
     bare = bare_after;
     rising = rising_after;
+    focused = λ n some. has_kept n (t.focused n some);
   }
 
   parent_kept : (q : ℕ) → has d q ≡ true → parent e q ≡ parent d q

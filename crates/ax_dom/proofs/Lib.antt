@@ -5,3 +5,4 @@ pub mod Entries
 pub mod Inserted
 pub mod Fresh
 pub mod Amended
+pub mod Focused

@@ -9,9 +9,9 @@ use Rattle.ax_base.specs.declared.body.Body.TheVariants.{Element, Words}
 use Rattle.ax_base.specs.declared.rect.Rect.{Rect}
 use Rattle.ax_base.specs.Document.{Document, Node, root, body, children}
 use Rattle.ax_dom.specs.declared.edit.Edit.{Edit}
-use Rattle.ax_dom.specs.declared.edit.Edit.TheVariants.{InsertElement, InsertText, Chars, Set}
+use Rattle.ax_dom.specs.declared.edit.Edit.TheVariants.{InsertElement, InsertText, Chars, Set, Unset, SetRuns, Frame, Focus}
 use Rattle.ax_dom.specs.Places.{placed}
-use Rattle.ax_dom.specs.Bodies.{with_chars, with_attr}
+use Rattle.ax_dom.specs.Bodies.{with_chars, with_attr, without_attr, with_runs, with_frame}
 
 -- the nodes with other children of n
 abbrev pub with_children : Document → ℕ → List ℕ → List (ℕ × Node)
@@ -29,6 +29,10 @@ inserted d id into before b = record {
 abbrev pub with_body : Document → ℕ → Body → Document
 with_body d n b = record d { nodes = set_value (is_at (nat_cmp n)) d.nodes (record { body = b; children = children d n }) }
 
+-- another focused node, or none (HTML, section 6.6.2: the focused area of a document)
+abbrev pub with_focus : Document → Option ℕ → Document
+with_focus d id = record d { focus = id }
+
 -- the frame of a new element
 abbrev pub no_frame : Rect
 no_frame = record { x = pos 0; y = pos 0; w = pos 0; h = pos 0 }
@@ -39,6 +43,10 @@ edited d (InsertElement id into before tag attrs) = inserted d id into before (E
 edited d (InsertText id into before chars) = inserted d id into before (Words chars [])
 edited d (Chars id chars) = with_body d id (with_chars chars (body d id))
 edited d (Set id name value) = with_body d id (with_attr name value (body d id))
+edited d (Unset id name) = with_body d id (without_attr name (body d id))
+edited d (SetRuns id runs) = with_body d id (with_runs runs (body d id))
+edited d (Frame id rect) = with_body d id (with_frame rect (body d id))
+edited d (Focus id) = with_focus d id
 
 -- the root alone (HTML, section 4.1.1: the html element)
 abbrev pub new_document : Document

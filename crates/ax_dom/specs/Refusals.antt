@@ -4,12 +4,15 @@ use Rattle.std.specs.List.{list_any}
 use Rattle.std.specs.Str.{chars}
 use Rattle.ax_base.specs.Characters.{Chars}
 use Rattle.ax_base.specs.declared.attrs.Attr.{Attr}
+use Rattle.ax_base.specs.declared.body.Body.{Body}
+use Rattle.ax_base.specs.declared.body.Body.TheVariants.{Element, Words}
 use Rattle.ax_base.specs.Document.{Document, root, has, depth, body, children, is_text}
 use Rattle.ax_dom.specs.declared.cause.EditCause.{EditCause}
-use Rattle.ax_dom.specs.declared.cause.EditCause.TheVariants.{NoNode, UsedId, BadPlace, NotElement, NotText, TooDeep, TooMany, TooLong, NoMemory}
+use Rattle.ax_dom.specs.declared.cause.EditCause.TheVariants.{NoNode, UsedId, BadPlace, NotElement, NotText, TooDeep, TooMany, BadRuns, TooLong, NoMemory}
 use Rattle.ax_dom.specs.declared.edit.Edit.{Edit}
-use Rattle.ax_dom.specs.declared.edit.Edit.TheVariants.{InsertElement, InsertText, Chars as NewChars, Set}
+use Rattle.ax_dom.specs.declared.edit.Edit.TheVariants.{InsertElement, InsertText, Chars as NewChars, Set, Unset, SetRuns, Frame, Focus}
 use Rattle.ax_dom.specs.Used.{is_used}
+use Rattle.ax_dom.specs.Runs.{may_have_runs}
 
 -- no child to stand before is given, or it is a child of `into`
 abbrev pub is_place : Document → ℕ → Option ℕ → Bool
@@ -28,6 +31,16 @@ is_long_value value = nat_lt 4096 (length value)
 abbrev pub has_long_value : List Attr → Bool
 has_long_value attrs = list_any (λ a. is_long_value a.value) attrs
 
+-- whether none is to be focused, or a node that is there
+abbrev pub may_focus : Document → Option ℕ → Bool
+may_focus d None = true
+may_focus d (Some n) = has d n
+
+-- how many characters a text has
+abbrev pub length_of : Body → ℕ
+length_of (Words new runs) = length (chars new)
+length_of (Element tag attrs frame) = 0
+
 -- whether a text has more than 65,536 characters
 abbrev pub is_long_text : Chars → Bool
 is_long_text t = nat_lt 65536 (length (chars t))
@@ -38,6 +51,10 @@ lacks_node d (InsertElement id into before tag attrs) = not (has d into)
 lacks_node d (InsertText id into before new) = not (has d into)
 lacks_node d (NewChars id new) = not (has d id)
 lacks_node d (Set id name value) = not (has d id)
+lacks_node d (Unset id name) = not (has d id)
+lacks_node d (SetRuns id runs) = not (has d id)
+lacks_node d (Frame id rect) = not (has d id)
+lacks_node d (Focus id) = not (may_focus d id)
 
 -- an insert's id is the root's or was inserted before
 abbrev pub reuses_id : Document → Edit → Bool
@@ -56,11 +73,14 @@ abbrev pub wants_element : Document → Edit → Bool
 wants_element d (InsertElement id into before tag attrs) = is_text (body d into)
 wants_element d (InsertText id into before new) = is_text (body d into)
 wants_element d (Set id name value) = is_text (body d id)
+wants_element d (Unset id name) = is_text (body d id)
+wants_element d (Frame id rect) = is_text (body d id)
 wants_element d _ = false
 
 -- a text is wanted, and the node is an element
 abbrev pub wants_text : Document → Edit → Bool
 wants_text d (NewChars id new) = not (is_text (body d id))
+wants_text d (SetRuns id runs) = not (is_text (body d id))
 wants_text d _ = false
 
 -- some node would have a depth over 64
@@ -75,12 +95,18 @@ is_one_too_many d (InsertElement id into before tag attrs) = nat_le 65536 (lengt
 is_one_too_many d (InsertText id into before new) = nat_le 65536 (length d.used)
 is_one_too_many d _ = false
 
+-- the runs are not those that the text may have
+abbrev pub breaks_runs : Document → Edit → Bool
+breaks_runs d (SetRuns id runs) = not (may_have_runs (length_of (body d id)) runs)
+breaks_runs d _ = false
+
 -- an attribute value has more than 4,096 bytes, or a text more than 65,536 characters
 abbrev pub is_too_long : Edit → Bool
 is_too_long (InsertElement id into before tag attrs) = has_long_value attrs
 is_too_long (InsertText id into before new) = is_long_text new
 is_too_long (NewChars id new) = is_long_text new
 is_too_long (Set id name value) = is_long_value value
+is_too_long _ = false
 
 -- the first cause whose condition holds
 abbrev pub first_cause : List (Bool × EditCause) → Option EditCause
@@ -97,6 +123,7 @@ edit_cause d e = first_cause (
     ∷ (wants_text d e, NotText)
     ∷ (goes_too_deep d e, TooDeep)
     ∷ (is_one_too_many d e, TooMany)
+    ∷ (breaks_runs d e, BadRuns)
     ∷ (is_too_long e, TooLong)
     ∷ [])
 

@@ -1,5 +1,5 @@
 //! The edits of a document.
-use ax_base::{Attrs, ObjId, Text};
+use ax_base::{Attrs, ObjId, Rect, Runs, Text};
 
 /// An edit of a document.
 #[derive(Drop)]
@@ -19,15 +19,32 @@ pub enum Edit {
         before: Option<ObjId>,
         chars: Text,
     },
-    /// Other characters of a text. Its runs are taken away.
-    Chars {
-        id: ObjId,
-        chars: Text,
-    },
     /// A value of an attribute, in the place of the one that it has, or at the end.
     Set {
         id: ObjId,
         name: Text,
         value: Text,
     },
+    /// No attribute of a name any more. Where there is none nothing changes.
+    Unset {
+        id: ObjId,
+        name: Text,
+    },
+    /// Other characters of a text. Its runs are taken away.
+    Chars {
+        id: ObjId,
+        chars: Text,
+    },
+    /// The runs of a text.
+    SetRuns {
+        id: ObjId,
+        runs: Runs,
+    },
+    /// The frame of an element.
+    Frame {
+        id: ObjId,
+        rect: Rect,
+    },
+    /// The focused node, or none.
+    Focus(Option<ObjId>),
 }

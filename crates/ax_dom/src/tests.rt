@@ -2,7 +2,7 @@
 ghost use Rattle.std.specs.Prelude.{◌≡◌};
 
 use crate::{Body, Cell, Dom, Edit, EditCause};
-use ax_base::{Attrs, ObjId, Steps, Text};
+use ax_base::{Attrs, ObjId, Rect, Run, Runs, Steps, Text};
 use std::alloc::Global;
 use std::marker::Brand;
 use std::process::Abort;
@@ -55,7 +55,33 @@ fn change_texts(rt: &impl Abort, alloc: Global, dom: &mut Dom) -> Result<(), Fai
     dom.apply(alloc, &text)?;
     dom.apply(alloc, &other)?;
     dom.apply(alloc, &hidden)?;
+    dom.apply(alloc, &Edit::Focus(Some(ObjId(6))))?;
+    assert_eq!(rt; dom.focus(), Some(ObjId(6)));
+    let runs = Runs::from_vec(vec![in alloc; run(0, 2, 0), run(2, 3, 1)]?);
+    let short = Runs::from_vec(vec![in alloc; run(0, 2, 0)]?);
+    let id = ObjId(6);
+    dom.apply(alloc, &Edit::SetRuns { id, runs })?;
+    assert_eq!(rt;
+        dom.apply(alloc, &Edit::SetRuns { id, runs: short }),
+        Err(EditCause::BadRuns)
+    );
     Ok(())
+}
+
+/// A run without a frame.
+fn run(first: u32, past: u32, line: u32) -> Run {
+    let rect = Rect {
+        x: 0,
+        y: 0,
+        w: 0,
+        h: 0,
+    };
+    Run {
+        first,
+        past,
+        line,
+        rect,
+    }
 }
 
 /// A paragraph without attributes.

@@ -2,8 +2,8 @@
 ghost use Rattle.std.specs.Prelude.{◌≡◌, OnOk, OnErr, None, IsTrue};
 ghost use Rattle.ax_base.specs.Document.{has, body};
 ghost use Rattle.ax_dom.specs.Bodies.{body_after};
-ghost use Rattle.ax_dom.specs.Changes.{inserted, with_body, edited};
-ghost use Rattle.ax_dom.specs.Refusals.{MayInsert, edit_cause};
+ghost use Rattle.ax_dom.specs.Changes.{inserted, with_body, with_focus, edited};
+ghost use Rattle.ax_dom.specs.Refusals.{MayInsert, may_focus, edit_cause};
 
 use super::{Dom, NO_FRAME};
 use crate::cell::{Cell, Slot};
@@ -45,7 +45,15 @@ impl Dom {
                 };
                 self.insert(alloc, *id, *into, before, body)
             }
-            Edit::Chars { id, .. } | Edit::Set { id, .. } => self.amend(alloc, *id, e),
+            Edit::Chars { id, .. }
+            | Edit::Set { id, .. }
+            | Edit::Unset { id, .. }
+            | Edit::SetRuns { id, .. }
+            | Edit::Frame { id, .. } => self.amend(alloc, *id, e),
+            Edit::Focus(id) => {
+                self.set_focus(id);
+                Ok(())
+            }
         }
     }
 
@@ -87,5 +95,13 @@ impl Dom {
     {
         self.slots.amend(alloc, id, e)?;
         Ok(())
+    }
+
+    /// Focuses a node, or none.
+    fn set_focus(&mut self, id: &Option<ObjId>)
+        requires { IsTrue (may_focus self.old id.now) }
+        ensures { self.new ≡ with_focus self.old id.now }
+    {
+        self.focus = *id;
     }
 }
