@@ -14,7 +14,7 @@ use Rattle.ax_base.proofs.Shapes.{HasShapeOf, parent_same, depth_same, tree_same
 use Rattle.ax_dom.specs.declared.cell.Cell.{Cell}
 use Rattle.ax_dom.specs.declared.cell.Slot.{Slot}
 use Rattle.ax_dom.specs.declared.edit.Edit.{Edit}
-use Rattle.ax_dom.specs.declared.edit.Edit.TheVariants.{InsertElement, InsertText, Chars, Set, Unset, SetRuns, Frame, Focus}
+use Rattle.ax_dom.specs.declared.edit.Edit.TheVariants.{InsertElement, InsertText, Remove, Move, Chars, Set, Unset, SetRuns, Frame, Focus}
 use Rattle.ax_dom.specs.Slots.{cell_of, slot_at, nodes_of, document_of, IsKept}
 use Rattle.ax_dom.specs.Bodies.{body_after, slot_after}
 use Rattle.ax_dom.specs.Changes.{with_body}
@@ -25,6 +25,8 @@ use Rattle.ax_dom.proofs.Entries.{nodes_of-set_value, the_slot}
 pub kind_stays : (e : Edit) (b : Body) → is_text (body_after e b) ≡ is_text b
 kind_stays (InsertElement id into before tag attrs) b = refl
 kind_stays (InsertText id into before chars) b = refl
+kind_stays (Remove id) b = refl
+kind_stays (Move id into before) b = refl
 kind_stays (Chars id chars) (Element tag attrs frame) = refl
 kind_stays (Chars id chars) (Words old runs) = refl
 kind_stays (Set id name value) (Element tag attrs frame) = refl

@@ -73,7 +73,7 @@ module _ (es : List (ℕ × Slot)) (focus : Option ℕ) (used : List ℕ) where
     not_missing none there = false≢true (ap is_some none ∙ has_is ∙ there)
 
 -- what is found passes the test
-found_passes : (test : ℕ → Bool) (xs : List ℕ) (p : ℕ) → find test xs ≡ Some p → test p ≡ true
+pub found_passes : (test : ℕ → Bool) (xs : List ℕ) (p : ℕ) → find test xs ≡ Some p → test p ≡ true
 found_passes test [] p found = cc
 found_passes test (x ∷ xs) p found = go (test x) refl (found_passes test xs p) found
   where

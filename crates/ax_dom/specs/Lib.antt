@@ -1,6 +1,8 @@
 pub mod Places
 pub mod Used
 pub mod Slots
+pub mod Subtrees
+pub mod Rewrites
 pub mod Bodies
 pub mod Runs
 pub mod Changes

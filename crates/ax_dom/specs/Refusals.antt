@@ -1,17 +1,19 @@
 -- Why an edit is refused.
-use Rattle.std.specs.Prelude.{◌≡◌, ◌≢◌, ◌<◌, ℕ, Bool, true, false, not, ◌||◌, ◌+◌, nat_eq, nat_lt, nat_le, length, ◌==◌, if◌then◌else◌, List, [], ◌∷◌, Option, Some, None}
+use Rattle.std.specs.Prelude.{◌≡◌, ◌≢◌, ◌<◌, ℕ, Bool, true, false, not, ◌||◌, ◌+◌, ◌-◌, nat_eq, nat_lt, nat_le, length, ◌==◌, if◌then◌else◌, List, [], ◌∷◌, Option, Some, None}
 use Rattle.std.specs.List.{list_any}
+use Rattle.std.specs.Option.{option_map_or}
 use Rattle.std.specs.Str.{chars}
 use Rattle.ax_base.specs.Characters.{Chars}
 use Rattle.ax_base.specs.declared.attrs.Attr.{Attr}
 use Rattle.ax_base.specs.declared.body.Body.{Body}
 use Rattle.ax_base.specs.declared.body.Body.TheVariants.{Element, Words}
-use Rattle.ax_base.specs.Document.{Document, root, has, depth, body, children, is_text}
+use Rattle.ax_base.specs.Document.{Document, root, has, depth, body, children, lineage, is_text}
 use Rattle.ax_dom.specs.declared.cause.EditCause.{EditCause}
-use Rattle.ax_dom.specs.declared.cause.EditCause.TheVariants.{NoNode, UsedId, BadPlace, NotElement, NotText, TooDeep, TooMany, BadRuns, TooLong, NoMemory}
+use Rattle.ax_dom.specs.declared.cause.EditCause.TheVariants.{NoNode, UsedId, BadPlace, NotElement, NotText, IntoItself, RootFixed, TooDeep, TooMany, BadRuns, TooLong, NoMemory}
 use Rattle.ax_dom.specs.declared.edit.Edit.{Edit}
-use Rattle.ax_dom.specs.declared.edit.Edit.TheVariants.{InsertElement, InsertText, Chars as NewChars, Set, Unset, SetRuns, Frame, Focus}
+use Rattle.ax_dom.specs.declared.edit.Edit.TheVariants.{InsertElement, InsertText, Remove, Move, Chars as NewChars, Set, Unset, SetRuns, Frame, Focus}
 use Rattle.ax_dom.specs.Used.{is_used}
+use Rattle.ax_dom.specs.Subtrees.{subtree}
 use Rattle.ax_dom.specs.Runs.{may_have_runs}
 
 -- no child to stand before is given, or it is a child of `into`
@@ -49,6 +51,8 @@ is_long_text t = nat_lt 65536 (length (chars t))
 abbrev pub lacks_node : Document → Edit → Bool
 lacks_node d (InsertElement id into before tag attrs) = not (has d into)
 lacks_node d (InsertText id into before new) = not (has d into)
+lacks_node d (Remove id) = not (has d id)
+lacks_node d (Move id into before) = not (has d id) || not (has d into)
 lacks_node d (NewChars id new) = not (has d id)
 lacks_node d (Set id name value) = not (has d id)
 lacks_node d (Unset id name) = not (has d id)
@@ -62,16 +66,18 @@ reuses_id d (InsertElement id into before tag attrs) = is_taken d id
 reuses_id d (InsertText id into before new) = is_taken d id
 reuses_id d _ = false
 
--- a child to stand before is given, and is no child of `into`
+-- a child to stand before is given, and is no child of `into`, or is the moved node itself
 abbrev pub lacks_place : Document → Edit → Bool
 lacks_place d (InsertElement id into before tag attrs) = not (is_place d into before)
 lacks_place d (InsertText id into before new) = not (is_place d into before)
+lacks_place d (Move id into before) = not (is_place d into before) || option_map_or (nat_eq id) before false
 lacks_place d _ = false
 
 -- an element is wanted, and the node is a text
 abbrev pub wants_element : Document → Edit → Bool
 wants_element d (InsertElement id into before tag attrs) = is_text (body d into)
 wants_element d (InsertText id into before new) = is_text (body d into)
+wants_element d (Move id into before) = is_text (body d into)
 wants_element d (Set id name value) = is_text (body d id)
 wants_element d (Unset id name) = is_text (body d id)
 wants_element d (Frame id rect) = is_text (body d id)
@@ -83,10 +89,25 @@ wants_text d (NewChars id new) = not (is_text (body d id))
 wants_text d (SetRuns id runs) = not (is_text (body d id))
 wants_text d _ = false
 
+-- the moved node is `into` or above it
+abbrev pub goes_into_itself : Document → Edit → Bool
+goes_into_itself d (Move id into before) = list_any (nat_eq id) (lineage d into)
+goes_into_itself d _ = false
+
+-- the root is to be removed
+abbrev pub removes_root : Edit → Bool
+removes_root (Remove id) = id == root
+removes_root _ = false
+
+-- whether some node would have a depth over 64, if n hung on `into`: it is as far below n as it was
+abbrev pub is_too_high : Document → ℕ → ℕ → Bool
+is_too_high d n into = list_any (λ m. nat_lt 64 (depth d into + 1 + (depth d m - depth d n))) (subtree d n)
+
 -- some node would have a depth over 64
 abbrev pub goes_too_deep : Document → Edit → Bool
 goes_too_deep d (InsertElement id into before tag attrs) = nat_lt 64 (depth d into + 1)
 goes_too_deep d (InsertText id into before new) = nat_lt 64 (depth d into + 1)
+goes_too_deep d (Move id into before) = is_too_high d id into
 goes_too_deep d _ = false
 
 -- 65,536 nodes were inserted before
@@ -121,6 +142,8 @@ edit_cause d e = first_cause (
     ∷ (lacks_place d e, BadPlace)
     ∷ (wants_element d e, NotElement)
     ∷ (wants_text d e, NotText)
+    ∷ (goes_into_itself d e, IntoItself)
+    ∷ (removes_root e, RootFixed)
     ∷ (goes_too_deep d e, TooDeep)
     ∷ (is_one_too_many d e, TooMany)
     ∷ (breaks_runs d e, BadRuns)
@@ -140,3 +163,12 @@ pub record MayInsert (d : Document) (id into : ℕ) (before : Option ℕ) : Type
   pub place : is_place d into before ≡ true
   pub element : is_text (body d into) ≡ false
   pub low : depth d into < 64
+
+-- what a move that nothing refuses has
+pub record MayMove (d : Document) (id into : ℕ) (before : Option ℕ) : Type 0 where
+  pub known : has d id ≡ true
+  pub parent_known : has d into ≡ true
+  pub place : is_place d into before ≡ true
+  pub element : is_text (body d into) ≡ false
+  pub out : list_any (nat_eq id) (lineage d into) ≡ false
+  pub low : is_too_high d id into ≡ false

@@ -19,6 +19,14 @@ pub enum Edit {
         before: Option<ObjId>,
         chars: Text,
     },
+    /// A node with all that is below it is taken out.
+    Remove(ObjId),
+    /// A node, with all that is below it, goes before the child `before` of `into`, or becomes its last child.
+    Move {
+        id: ObjId,
+        into: ObjId,
+        before: Option<ObjId>,
+    },
     /// A value of an attribute, in the place of the one that it has, or at the end.
     Set {
         id: ObjId,

@@ -2,7 +2,7 @@
 ghost use Rattle.std.specs.Prelude.{◌≡◌, ◌+◌, nat_eq, nat_lt, false};
 ghost use Rattle.std.specs.Option.{option_map_or};
 ghost use Rattle.ax_base.specs.Document.{has, body, depth, is_text};
-ghost use Rattle.ax_dom.specs.Refusals.{is_taken, is_place, lacks_node, reuses_id, lacks_place, wants_element, wants_text, goes_too_deep, is_one_too_many, is_too_long, is_long_value, has_long_value, is_long_text, breaks_runs, length_of, may_focus, edit_cause};
+ghost use Rattle.ax_dom.specs.Refusals.{is_taken, is_place, lacks_node, reuses_id, lacks_place, wants_element, wants_text, goes_too_deep, is_one_too_many, is_too_long, is_long_value, has_long_value, is_long_text, breaks_runs, length_of, may_focus, goes_into_itself, removes_root, edit_cause};
 ghost use Rattle.ax_dom.specs.Runs.{go_on, may_have_runs};
 
 use super::Dom;
@@ -25,6 +25,10 @@ impl Dom {
             Some(EditCause::NotElement)
         } else if self.wants_text(e) {
             Some(EditCause::NotText)
+        } else if self.goes_into_itself(e) {
+            Some(EditCause::IntoItself)
+        } else if removes_root(e) {
+            Some(EditCause::RootFixed)
         } else if self.goes_too_deep(e) {
             Some(EditCause::TooDeep)
         } else if self.is_one_too_many(e) {
@@ -49,6 +53,8 @@ impl Dom {
             | Edit::Unset { id, .. }
             | Edit::SetRuns { id, .. }
             | Edit::Frame { id, .. } => !self.has(*id),
+            Edit::Remove(id) => !self.has(*id),
+            Edit::Move { id, into, .. } => !self.has(*id) || !self.has(*into),
             Edit::Focus(id) => !self.may_focus(id),
         }
     }
@@ -70,6 +76,8 @@ impl Dom {
         match e {
             Edit::InsertElement { into, before, .. } | Edit::InsertText { into, before, .. } =>
                 !self.is_place(*into, before),
+            Edit::Move { id, into, before } => !self.is_place(*into, before)
+                || is_same(before, *id),
             _ => false,
         }
     }
@@ -79,10 +87,12 @@ impl Dom {
         ensures { result ≡ wants_element self.now e.now }
     {
         match e {
-            Edit::InsertElement { into, .. } | Edit::InsertText { into, .. } => self.is_text(*into),
-            Edit::Set { id, .. } | Edit::Unset { id, .. } | Edit::Frame { id, .. } => self.is_text(
-                *id,
-            ),
+            Edit::InsertElement { into, .. }
+            | Edit::InsertText { into, .. }
+            | Edit::Move { into, .. } => self.is_text(*into),
+            Edit::Set { id, .. } | Edit::Unset { id, .. } | Edit::Frame { id, .. } => {
+                self.is_text(*id)
+            }
             _ => false,
         }
     }
@@ -97,14 +107,25 @@ impl Dom {
         }
     }
 
+    /// Whether a node would move into itself or below itself.
+    fn goes_into_itself(&self, e: &Edit) -> bool
+        ensures { result ≡ goes_into_itself self.now e.now }
+    {
+        match e {
+            Edit::Move { id, into, .. } => self.is_above(*id, *into),
+            _ => false,
+        }
+    }
+
     /// Whether some node would have more than 64 ancestors.
     fn goes_too_deep(&self, e: &Edit) -> bool
         ensures { result ≡ goes_too_deep self.now e.now }
     {
         match e {
-            Edit::InsertElement { into, .. } | Edit::InsertText { into, .. } => self.is_deepest(
-                *into,
-            ),
+            Edit::InsertElement { into, .. } | Edit::InsertText { into, .. } => {
+                self.is_deepest(*into)
+            }
+            Edit::Move { id, into, .. } => self.is_too_high(*id, *into),
             _ => false,
         }
     }
@@ -169,7 +190,7 @@ impl Dom {
     {
         match before {
             None => true,
-            Some(b) => is_same(self.parent_of(*b), into),
+            Some(b) => is_same(&self.parent_of(*b), into),
         }
     }
 
@@ -202,12 +223,22 @@ impl Dom {
 }
 
 /// Whether it is this id.
-fn is_same(o: Option<ObjId>, id: ObjId) -> bool
-    ensures { result ≡ option_map_or (nat_eq id) o false }
+fn is_same(o: &Option<ObjId>, id: ObjId) -> bool
+    ensures { result ≡ option_map_or (nat_eq id) o.now false }
 {
     match o {
         None => false,
         Some(n) => id.number() == n.number(),
+    }
+}
+
+/// Whether the root is to be removed.
+fn removes_root(e: &Edit) -> bool
+    ensures { result ≡ removes_root e.now }
+{
+    match e {
+        Edit::Remove(id) => id.number() == 1,
+        _ => false,
     }
 }
 
