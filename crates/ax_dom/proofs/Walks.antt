@@ -92,7 +92,7 @@ module _ (d : Document) (t : IsTree d) (p : ℕ → Bool) (n : ℕ) where
   pub none_anywhere : (xs : List ℕ) (i : ℕ) → xs ≡ children d n → length xs ≤ i → p n ≡ false → list_any p (flat_map (subtree d) (take i xs)) ≡ false → false ≡ list_any p (subtree d n)
   none_anywhere xs i same all off rest =
       sym (any_at ∙ ap (λ b. b || list_any p (flat_map (subtree d) (children d n))) off
-          ∙ ap (λ ys. list_any p (flat_map (subtree d) ys)) (sym same ∙ sym (take_all i xs all)) ∙ rest)
+      ∙ ap (λ ys. list_any p (flat_map (subtree d) ys)) (sym same ∙ sym (take_all i xs all)) ∙ rest)
 
 flat_map_more : (f : ℕ → List ℕ) (xs : List ℕ) (x : ℕ) → flat_map f (xs ++ x ∷ []) ≡ flat_map f xs ++ f x
 flat_map_more f [] x = append-nil (f x)
