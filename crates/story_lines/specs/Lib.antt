@@ -1,4 +1,9 @@
 pub mod Values
 pub mod Attributes
+pub mod Runs
+pub mod Markers
+pub mod Searches
+pub mod Requests
 pub mod Forms
 pub mod Lines
+pub mod Bounds

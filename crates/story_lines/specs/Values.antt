@@ -1,5 +1,5 @@
 -- What stands in a line: keys, whole numbers within bounds, texts and names.
-use Rattle.std.specs.Prelude.{ℕ, ◌^◌, ◌-◌, ◌&&◌, ◌||◌, ◌==◌, ℤ, pos, negsuc, List, [], ◌∷◌, length, codes, Bool, true, false, nat_le, if◌then◌else◌, Option, Some, None, option_map, option_and_then, unwrap_or, bytes_eq}
+use Rattle.std.specs.Prelude.{ℕ, ◌^◌, ◌-◌, ◌&&◌, ◌||◌, ◌==◌, ℤ, pos, negsuc, List, [], ◌∷◌, length, codes, Bool, true, false, nat_le, nat_lt, if◌then◌else◌, Option, Some, None, option_map, option_and_then, unwrap_or, bytes_eq}
 use Rattle.std.specs.Char.{is_ascii_lowercase, is_ascii_digit}
 use Rattle.std.specs.List.{list_any, list_all}
 use Rattle.std.specs.Option.{option_map_or}
@@ -11,6 +11,12 @@ infixl 10 ◌>>=◌
 -- what comes of a value, where there is one
 abbrev pub ◌>>=◌ : {A B : Type 0} → Option A → (A → Option B) → Option B
 o >>= f = option_and_then f o
+
+infixr 5 ◌or_else◌
+-- the first that is there
+abbrev pub ◌or_else◌ : {A : Type 0} → Option A → Option A → Option A
+None or_else p = p
+Some x or_else p = Some x
 
 -- each key is one of these
 abbrev pub only_keys : List Chars → Members → Bool
@@ -47,6 +53,28 @@ abbrev pub maybe_id : Option Data → Option (Option ℕ)
 maybe_id None = Some None
 maybe_id (Some d) = option_map Some (whole 1 max_id d)
 
+-- no node where the number is 0
+abbrev pub id_or_none : ℕ → Option ℕ
+id_or_none n = if n == 0 then None else Some n
+
+-- the id at a key, or none where 0 stands there
+abbrev pub id_or_none_at : Chars → Data → Option (Option ℕ)
+id_or_none_at key d = option_map id_or_none (whole_at key 0 max_id d)
+
+-- a number from -most to most
+abbrev pub around_zero : ℕ → ℤ → Option ℤ
+around_zero most (pos n) = if nat_le n most then Some (pos n) else None
+around_zero most (negsuc n) = if nat_lt n most then Some (negsuc n) else None
+
+-- a number from -2^31 to 2^31 - 1
+abbrev pub signed : ℤ → Option ℤ
+signed (pos n) = if nat_lt n (2 ^ 31) then Some (pos n) else None
+signed (negsuc n) = if nat_lt n (2 ^ 31) then Some (negsuc n) else None
+
+-- such a whole number at a key
+abbrev pub signed_at : Chars → Data → Option ℤ
+signed_at key d = get key d >>= as_number >>= as_i64 >>= signed
+
 -- `true` stands at the key
 abbrev pub has_true : Chars → Data → Bool
 has_true key d = unwrap_or (get key d >>= as_bool) false
@@ -54,6 +82,14 @@ has_true key d = unwrap_or (get key d >>= as_bool) false
 -- the word is the one key, and `true` stands there
 abbrev pub is_word : Chars → Data → Bool
 is_word word d = has_only (word ∷ []) d && has_true word d
+
+-- the greatest number of a moment
+abbrev pub max_moment : ℕ
+max_moment = 2 ^ 30 - 1
+
+-- the word is the one key, and a moment stands there
+abbrev pub moment_by : Chars → Data → Option ℕ
+moment_by word d = if has_only (word ∷ []) d then whole_at word 0 max_moment d else None
 
 -- the text at a key
 abbrev pub text_at : Chars → Data → Option Chars

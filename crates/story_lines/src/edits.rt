@@ -1,11 +1,12 @@
 //! The forms of the edits.
 ghost use Rattle.std.specs.Prelude.{◌≡◌, IfOk};
 ghost use Rattle.serde_json.specs.View.{view};
-ghost use Rattle.story_lines.specs.Forms.{insert_element_of, insert_text_of, set_of, text_of, edit_of};
+ghost use Rattle.story_lines.specs.Forms.{insert_element_of, insert_text_of, remove_of, move_of, set_of, unset_of, text_of, runs_of, frame_of, focus_of, edit_of};
 
 use crate::attributes::maybe_attributes;
 use crate::keys::has_only;
-use crate::values::{id_at, maybe_id_at, name_at, tag_at, text_at};
+use crate::runs::{rect_at, runs_at};
+use crate::values::{id_at, id_or_none_at, maybe_id_at, name_at, tag_at, text_at};
 use ax_base::{NoMemory, Text};
 use ax_dom::Edit;
 use serde_json::Value;
@@ -73,6 +74,31 @@ fn insert_text_of(alloc: Global, value: &Value) -> Result<Option<Edit>, NoMemory
     }))
 }
 
+/// Remove.
+#[tactic(auto, unfolding(crate::specs::Forms::remove_of))]
+fn remove_of(value: &Value) -> Option<Edit>
+    ensures { result ≡ remove_of (view value.now) }
+{
+    if !has_only(value, &["remove"]) {
+        return None;
+    }
+    Some(Edit::Remove(id_at(value, "remove")?))
+}
+
+/// Move.
+#[tactic(auto, unfolding(crate::specs::Forms::move_of))]
+fn move_of(value: &Value) -> Option<Edit>
+    ensures { result ≡ move_of (view value.now) }
+{
+    if !has_only(value, &["move", "into", "before"]) {
+        return None;
+    }
+    let id = id_at(value, "move")?;
+    let into = id_at(value, "into")?;
+    let before = maybe_id_at(value, "before")?;
+    Some(Edit::Move { id, into, before })
+}
+
 /// Set an attribute.
 #[tactic(auto, unfolding(crate::specs::Forms::set_of))]
 fn set_of(alloc: Global, value: &Value) -> Result<Option<Edit>, NoMemory>
@@ -95,6 +121,24 @@ fn set_of(alloc: Global, value: &Value) -> Result<Option<Edit>, NoMemory>
     Ok(Some(Edit::Set { id, name, value }))
 }
 
+/// Take an attribute away.
+#[tactic(auto, unfolding(crate::specs::Forms::unset_of))]
+fn unset_of(alloc: Global, value: &Value) -> Result<Option<Edit>, NoMemory>
+    ensures { IfOk result (λ edit. edit ≡ unset_of (view value.now)) }
+{
+    if !has_only(value, &["unset", "name"]) {
+        return Ok(None);
+    }
+    let Some(id) = id_at(value, "unset") else {
+        return Ok(None);
+    };
+    let Some(name) = name_at(value) else {
+        return Ok(None);
+    };
+    let name = Text::from_str(alloc, name)?;
+    Ok(Some(Edit::Unset { id, name }))
+}
+
 /// Change a text.
 #[tactic(auto, unfolding(crate::specs::Forms::text_of))]
 fn text_of(alloc: Global, value: &Value) -> Result<Option<Edit>, NoMemory>
@@ -113,6 +157,47 @@ fn text_of(alloc: Global, value: &Value) -> Result<Option<Edit>, NoMemory>
     Ok(Some(Edit::Chars { id, chars }))
 }
 
+/// Set runs.
+#[tactic(auto, unfolding(crate::specs::Forms::runs_of))]
+fn runs_of(alloc: Global, value: &Value) -> Result<Option<Edit>, NoMemory>
+    ensures { IfOk result (λ edit. edit ≡ runs_of (view value.now)) }
+{
+    if !has_only(value, &["runs", "list"]) {
+        return Ok(None);
+    }
+    let Some(id) = id_at(value, "runs") else {
+        return Ok(None);
+    };
+    let Some(runs) = runs_at(alloc, value)? else {
+        return Ok(None);
+    };
+    Ok(Some(Edit::SetRuns { id, runs }))
+}
+
+/// Set a frame.
+#[tactic(auto, unfolding(crate::specs::Forms::frame_of))]
+fn frame_of(value: &Value) -> Option<Edit>
+    ensures { result ≡ frame_of (view value.now) }
+{
+    if !has_only(value, &["frame", "rect"]) {
+        return None;
+    }
+    let id = id_at(value, "frame")?;
+    let rect = rect_at(value)?;
+    Some(Edit::Frame { id, rect })
+}
+
+/// Focus.
+#[tactic(auto, unfolding(crate::specs::Forms::focus_of))]
+fn focus_of(value: &Value) -> Option<Edit>
+    ensures { result ≡ focus_of (view value.now) }
+{
+    if !has_only(value, &["focus"]) {
+        return None;
+    }
+    Some(Edit::Focus(id_or_none_at(value, "focus")?))
+}
+
 /// The edit that a value is.
 #[tactic(auto, unfolding(crate::specs::Forms::edit_of))]
 pub(crate) fn edit_of(alloc: Global, value: &Value) -> Result<Option<Edit>, NoMemory>
@@ -124,8 +209,26 @@ pub(crate) fn edit_of(alloc: Global, value: &Value) -> Result<Option<Edit>, NoMe
     if let Some(edit) = insert_text_of(alloc, value)? {
         return Ok(Some(edit));
     }
+    if let Some(edit) = remove_of(value) {
+        return Ok(Some(edit));
+    }
+    if let Some(edit) = move_of(value) {
+        return Ok(Some(edit));
+    }
     if let Some(edit) = set_of(alloc, value)? {
         return Ok(Some(edit));
     }
-    text_of(alloc, value)
+    if let Some(edit) = unset_of(alloc, value)? {
+        return Ok(Some(edit));
+    }
+    if let Some(edit) = text_of(alloc, value)? {
+        return Ok(Some(edit));
+    }
+    if let Some(edit) = runs_of(alloc, value)? {
+        return Ok(Some(edit));
+    }
+    if let Some(edit) = frame_of(value) {
+        return Ok(Some(edit));
+    }
+    Ok(focus_of(value))
 }

@@ -1,16 +1,20 @@
 //! The forms of a line.
 ghost use Rattle.std.specs.Prelude.{◌≡◌, IfOk};
 ghost use Rattle.serde_json.specs.View.{view};
-ghost use Rattle.story_lines.specs.Forms.{start_of, flush_of, turns_of, form_of};
-ghost use Rattle.story_lines.specs.Values.{is_word};
+ghost use Rattle.story_lines.specs.Forms.{start_of, flush_of, until_of, ask_of, again_of, hear_of, await_of, notices_of, turns_of, form_of};
+ghost use Rattle.story_lines.specs.Values.{is_word, moment_by};
 
 use crate::edits::edit_of;
 use crate::keys::has_only;
 use crate::reading::Line;
+use crate::requests::request_by;
 use crate::values::{has_true, text_at, whole_at};
-use ax_base::{NoMemory, Text};
+use ax_base::{Moment, NoMemory, Text};
 use serde_json::Value;
 use std::alloc::Global;
+
+/// The greatest number of a moment.
+const MAX_MOMENT: u32 = 1_073_741_823;
 
 /// Start.
 #[tactic(auto, unfolding(crate::specs::Forms::start_of))]
@@ -31,6 +35,16 @@ fn is_word(value: &Value, word: &str) -> bool
     has_only(value, &[word]) && has_true(value, word)
 }
 
+/// The moment at a value's one key.
+fn moment_by(value: &Value, word: &str) -> Option<Moment>
+    ensures { result ≡ moment_by word.now (view value.now) }
+{
+    if !has_only(value, &[word]) {
+        return None;
+    }
+    Some(Moment(whole_at(value, word, 0, MAX_MOMENT)?))
+}
+
 /// Flush.
 #[tactic(auto, unfolding(crate::specs::Forms::flush_of))]
 fn flush_of(value: &Value) -> Option<Line>
@@ -38,6 +52,68 @@ fn flush_of(value: &Value) -> Option<Line>
 {
     if is_word(value, "flush") {
         Some(Line::Flush)
+    } else {
+        None
+    }
+}
+
+/// Until.
+#[tactic(auto, unfolding(crate::specs::Forms::until_of))]
+fn until_of(value: &Value) -> Option<Line>
+    ensures { result ≡ until_of (view value.now) }
+{
+    Some(Line::Until(moment_by(value, "until")?))
+}
+
+/// Ask.
+#[tactic(auto, unfolding(crate::specs::Forms::ask_of))]
+fn ask_of(alloc: Global, value: &Value) -> Result<Option<Line>, NoMemory>
+    ensures { IfOk result (λ line. line ≡ ask_of (view value.now)) }
+{
+    match request_by(alloc, value, "ask")? {
+        None => Ok(None),
+        Some(request) => Ok(Some(Line::Ask(request))),
+    }
+}
+
+/// Again.
+#[tactic(auto, unfolding(crate::specs::Forms::again_of))]
+fn again_of(alloc: Global, value: &Value) -> Result<Option<Line>, NoMemory>
+    ensures { IfOk result (λ line. line ≡ again_of (view value.now)) }
+{
+    match request_by(alloc, value, "again")? {
+        None => Ok(None),
+        Some(request) => Ok(Some(Line::Again(request))),
+    }
+}
+
+/// Hear.
+#[tactic(auto, unfolding(crate::specs::Forms::hear_of))]
+fn hear_of(value: &Value) -> Option<Line>
+    ensures { result ≡ hear_of (view value.now) }
+{
+    if is_word(value, "hear") {
+        Some(Line::Hear)
+    } else {
+        None
+    }
+}
+
+/// Await.
+#[tactic(auto, unfolding(crate::specs::Forms::await_of))]
+fn await_of(value: &Value) -> Option<Line>
+    ensures { result ≡ await_of (view value.now) }
+{
+    Some(Line::Await(moment_by(value, "await")?))
+}
+
+/// Notices.
+#[tactic(auto, unfolding(crate::specs::Forms::notices_of))]
+fn notices_of(value: &Value) -> Option<Line>
+    ensures { result ≡ notices_of (view value.now) }
+{
+    if is_word(value, "notices") {
+        Some(Line::Notices)
     } else {
         None
     }
@@ -69,6 +145,24 @@ pub(crate) fn form_of(alloc: Global, value: &Value) -> Result<Option<Line>, NoMe
         return Ok(Some(line));
     }
     if let Some(line) = flush_of(value) {
+        return Ok(Some(line));
+    }
+    if let Some(line) = until_of(value) {
+        return Ok(Some(line));
+    }
+    if let Some(line) = ask_of(alloc, value)? {
+        return Ok(Some(line));
+    }
+    if let Some(line) = again_of(alloc, value)? {
+        return Ok(Some(line));
+    }
+    if let Some(line) = hear_of(value) {
+        return Ok(Some(line));
+    }
+    if let Some(line) = await_of(value) {
+        return Ok(Some(line));
+    }
+    if let Some(line) = notices_of(value) {
         return Ok(Some(line));
     }
     turns_of(alloc, value)

@@ -5,7 +5,11 @@ mod attributes;
 mod edits;
 mod forms;
 mod keys;
+mod markers;
 mod reading;
+mod requests;
+mod runs;
+mod searches;
 #[cfg(test)]
 mod tests;
 mod values;

@@ -1,10 +1,12 @@
 //! What a line says, and why it says nothing.
-ghost use Rattle.std.specs.Prelude.{◌≡◌};
+ghost use Rattle.std.specs.Prelude.{◌≡◌, IfOk, IfSome};
 ghost use Rattle.serde_json.specs.View.{view};
+ghost use Rattle.story_lines.specs.Bounds.{KeepsBounds};
 ghost use Rattle.story_lines.specs.Lines.{is_blank_line, said_by, line_of, Reads};
 
 use crate::forms::form_of;
-use ax_base::{NoMemory, Text};
+use ax_ask::Request;
+use ax_base::{Moment, NoMemory, Text};
 use ax_dom::Edit;
 use serde_json::Value;
 use std::alloc::Global;
@@ -19,7 +21,19 @@ pub enum Line {
     Start,
     /// The page publishes its document, which gives the next moment.
     Flush,
-    /// The order in which the two sides take turns.
+    /// The page waits until the client has taken this moment.
+    Until(Moment),
+    /// The client asks.
+    Ask(Request),
+    /// The client asks again what it was told before, of the tree that it has by now.
+    Again(Request),
+    /// The client hears how many moments are published.
+    Hear,
+    /// The client waits until this moment is published.
+    Await(Moment),
+    /// The client lists the notices that it has taken.
+    Notices,
+    /// The order in which the two sides take turns, `P` for the page and `C` for the client. Any text is read.
     Turns(Text),
 }
 
@@ -50,7 +64,8 @@ impl From<NoMemory> for LineFail {
 
 /// What a JSON value says as a line.
 fn said_by(alloc: Global, value: &Value) -> Result<Option<Line>, LineFail>
-    ensures { Reads result (said_by (view value.now)) }
+    ensures said { Reads result (said_by (view value.now)) }
+    ensures bounds { IfOk result (λ line. IfSome line KeepsBounds) }
 {
     match form_of(alloc, value)? {
         Some(line) => Ok(Some(line)),
@@ -70,7 +85,10 @@ fn is_blank_line(line: &str) -> bool
 /// What a line says, and `None` exactly for a blank line: one that is empty or has only spaces, tabs and carriage returns.
 /// The line stands without its line feed.
 pub fn read_line(alloc: Global, line: &str) -> Result<Option<Line>, LineFail>
-    ensures { Reads result (line_of line.now) }
+    ensures said { Reads result (line_of line.now) }
+
+    // Each rectangle of the line is within bounds.
+    ensures bounds { IfOk result (λ said. IfSome said KeepsBounds) }
 {
     if is_blank_line(line) {
         return Ok(None);

@@ -1,6 +1,6 @@
 //! Lines with what they say.
 use crate::{Line, LineFail, read_line};
-use ax_base::{Attrs, ObjId, Text};
+use ax_base::{Attrs, ObjId, Rect, Runs, Text};
 use ax_dom::Edit;
 use std::alloc::{AllocError, Global};
 use std::test::Fail;
@@ -25,6 +25,27 @@ fn shown_element(
         write!(out, " {}={}", attr.name.as_str(), attr.value.as_str())?;
     }
     Ok(out)
+}
+
+/// Runs in a few words.
+fn shown_runs(alloc: Global, id: ObjId, runs: &Runs) -> Result<String, AllocError> {
+    let mut out = format!(in alloc; "runs {}", id.number())?;
+    for run in runs.as_slice() {
+        write!(
+            out,
+            " {}-{} {} {}",
+            run.first,
+            run.past,
+            run.line,
+            shown_rect(alloc, run.rect)?
+        )?;
+    }
+    Ok(out)
+}
+
+/// A rectangle in a few words.
+fn shown_rect(alloc: Global, rect: Rect) -> Result<String, AllocError> {
+    format!(in alloc; "{},{},{},{}", rect.x, rect.y, rect.w, rect.h)
 }
 
 /// Where a node goes, in a few words.
@@ -57,17 +78,30 @@ fn shown(alloc: Global, edit: &Edit) -> Result<String, AllocError> {
             shown_place(alloc, *id, *into, *before)?,
             chars.as_str()
         ),
+        Edit::Remove(id) => format!(in alloc; "remove {}", id.number()),
+        Edit::Move { id, into, before } => format!(in alloc;
+            "move {}",
+            shown_place(alloc, *id, *into, *before)?
+        ),
         Edit::Set { id, name, value } => format!(in alloc;
             "set {} {}={}",
             id.number(),
             name.as_str(),
             value.as_str()
         ),
+        Edit::Unset { id, name } => format!(in alloc; "unset {} {}", id.number(), name.as_str()),
         Edit::Chars { id, chars } => format!(in alloc;
             "text {} \"{}\"",
             id.number(),
             chars.as_str()
         ),
+        Edit::SetRuns { id, runs } => shown_runs(alloc, *id, runs),
+        Edit::Frame { id, rect } => format!(in alloc;
+            "frame {} {}",
+            id.number(),
+            shown_rect(alloc, *rect)?
+        ),
+        Edit::Focus(id) => format!(in alloc; "focus {}", number_of(*id)),
     }
 }
 
@@ -77,6 +111,12 @@ fn shown_line(alloc: Global, line: &Line) -> Result<String, AllocError> {
         Line::Change(edit) => shown(alloc, edit),
         Line::Start => String::from_str(alloc, "start"),
         Line::Flush => String::from_str(alloc, "flush"),
+        Line::Until(moment) => format!(in alloc; "until {}", moment.number()),
+        Line::Ask(_) => String::from_str(alloc, "ask"),
+        Line::Again(_) => String::from_str(alloc, "again"),
+        Line::Hear => String::from_str(alloc, "hear"),
+        Line::Await(moment) => format!(in alloc; "await {}", moment.number()),
+        Line::Notices => String::from_str(alloc, "notices"),
         Line::Turns(turns) => format!(in alloc; "turns \"{}\"", turns.as_str()),
     }
 }
@@ -198,13 +238,49 @@ fn reads_edits(rt: HostRuntime) -> Result<(), Fail> {
             "{\"insert\":2,\"into\":1,\"text\":\"\",\"attrs\":{}}",
             "bad line",
         ),
+        ("{\"remove\":1}", "remove 1"),
+        ("{\"remove\":0}", "bad line"),
+        ("{\"remove\":2,\"into\":1}", "bad line"),
+        ("{\"move\":2,\"into\":3}", "move 2 3 0"),
+        ("{\"move\":2,\"into\":3,\"before\":2}", "move 2 3 2"),
+        ("{\"move\":2}", "bad line"),
         ("{\"set\":2,\"name\":\"id\",\"value\":\"\"}", "set 2 id="),
         ("{\"set\":2,\"name\":\"Id\",\"value\":\"\"}", "bad line"),
         ("{\"set\":2,\"name\":\"id\",\"value\":null}", "bad line"),
         ("{\"set\":2,\"name\":\"id\"}", "bad line"),
+        ("{\"unset\":2,\"name\":\"id\"}", "unset 2 id"),
+        ("{\"unset\":2,\"name\":\"id\",\"value\":\"\"}", "bad line"),
         ("{\"text\":2,\"to\":\"a\\n\"}", "text 2 \"a\n\""),
         ("{\"text\":2,\"to\":3}", "bad line"),
         ("{\"text\":\"a\",\"to\":\"a\"}", "bad line"),
+        ("{\"runs\":2,\"list\":[]}", "runs 2"),
+        (
+            "{\"runs\":2,\"list\":[[0,65536,1048576,-1,-2,3,4],[65536,0,0,0,0,0,0]]}",
+            "runs 2 0-65536 1048576 -1,-2,3,4 65536-0 0 0,0,0,0",
+        ),
+        ("{\"runs\":2,\"list\":[[0,65537,0,0,0,0,0]]}", "bad line"),
+        ("{\"runs\":2,\"list\":[[65537,0,0,0,0,0,0]]}", "bad line"),
+        ("{\"runs\":2,\"list\":[[0,1,1048577,0,0,0,0]]}", "bad line"),
+        ("{\"runs\":2,\"list\":[[0,1,-1,0,0,0,0]]}", "bad line"),
+        ("{\"runs\":2,\"list\":[[0,1,0,0,0,0]]}", "bad line"),
+        ("{\"runs\":2,\"list\":[[0,1,0,0,0,0,0,0]]}", "bad line"),
+        ("{\"runs\":2,\"list\":[[0,1,0,0,0,0,0],0]}", "bad line"),
+        ("{\"runs\":2,\"list\":{}}", "bad line"),
+        (
+            "{\"frame\":2,\"rect\":[-1048576,1048576,0,1048576]}",
+            "frame 2 -1048576,1048576,0,1048576",
+        ),
+        ("{\"frame\":2,\"rect\":[-1048577,0,0,0]}", "bad line"),
+        ("{\"frame\":2,\"rect\":[0,1048577,0,0]}", "bad line"),
+        ("{\"frame\":2,\"rect\":[0,0,-1,0]}", "bad line"),
+        ("{\"frame\":2,\"rect\":[0,0,0,1048577]}", "bad line"),
+        ("{\"frame\":2,\"rect\":[0,0,0]}", "bad line"),
+        ("{\"frame\":2,\"rect\":[0,0,0,0,0]}", "bad line"),
+        ("{\"frame\":2,\"rect\":[0,0,0,0.5]}", "bad line"),
+        ("{\"focus\":2147483647}", "focus 2147483647"),
+        ("{\"focus\":0}", "focus 0"),
+        ("{\"focus\":2147483648}", "bad line"),
+        ("{\"focus\":null}", "bad line"),
     ] {
         assert_eq!(rt; said(rt.alloc(), line)?.as_str(), want, "at {line}");
     }
@@ -212,12 +288,23 @@ fn reads_edits(rt: HostRuntime) -> Result<(), Fail> {
 }
 
 #[test]
-fn reads_flushes_and_turns(rt: HostRuntime) -> Result<(), Fail> {
+fn reads_waits(rt: HostRuntime) -> Result<(), Fail> {
     for (line, want) in [
         ("{\"flush\":true}", "flush"),
         ("{\"flush\":false}", "bad line"),
         ("{\"flush\":1}", "bad line"),
         ("{\"flush\":true,\"hear\":true}", "bad line"),
+        ("{\"until\":0}", "until 0"),
+        ("{\"until\":1073741823}", "until 1073741823"),
+        ("{\"until\":1073741824}", "bad line"),
+        ("{\"until\":-1}", "bad line"),
+        ("{\"hear\":true}", "hear"),
+        ("{\"hear\":null}", "bad line"),
+        ("{\"await\":0}", "await 0"),
+        ("{\"await\":1073741823}", "await 1073741823"),
+        ("{\"await\":1073741824}", "bad line"),
+        ("{\"notices\":true}", "notices"),
+        ("{\"notices\":\"true\"}", "bad line"),
         ("{\"turns\":\"PCx\"}", "turns \"PCx\""),
         ("{\"turns\":\"\"}", "turns \"\""),
         ("{\"turns\":[]}", "bad line"),

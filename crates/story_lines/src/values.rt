@@ -2,20 +2,21 @@
 ghost use Rattle.std.specs.Prelude.{◌≡◌, option_map};
 ghost use Rattle.serde_json.specs.View.{view};
 ghost use Rattle.serde_json.specs.Find.{get};
-ghost use Rattle.story_lines.specs.Values.{whole, whole_at, id_at, maybe_id, begins_with_letter, is_tag_byte, is_name_byte, is_tag, is_attribute_name, has_true, text_at, tag_at, name_at};
+ghost use Rattle.story_lines.specs.Values.{whole, whole_at, id_at, maybe_id, id_or_none_at, signed_at, begins_with_letter, is_tag_byte, is_name_byte, is_tag, is_attribute_name, has_true, text_at, tag_at, name_at};
 ghost use Rattle.std.specs.List.{list_all};
 
 use ax_base::ObjId;
 use serde_json::Value;
 
-const MAX_ID: u32 = 2_147_483_647;
+/// The greatest id of a node.
+pub(crate) const MAX_ID: u32 = 2_147_483_647;
 
 const MAX_TAG: usize = 32;
 
 const MAX_NAME: usize = 64;
 
 /// A value that is a whole number within bounds.
-fn whole(value: &Value, low: u32, high: u32) -> Option<u32>
+pub(crate) fn whole(value: &Value, low: u32, high: u32) -> Option<u32>
     ensures { result ≡ whole low high (view value.now) }
 {
     let number = u32::try_from(value.as_i64()?).ok()?;
@@ -48,6 +49,25 @@ pub(crate) fn maybe_id_at(value: &Value, key: &str) -> Option<Option<ObjId>>
         None => Some(None),
         Some(id) => Some(Some(ObjId(whole(id, 1, MAX_ID)?))),
     }
+}
+
+/// The id at a key, or none where 0 stands there.
+pub(crate) fn id_or_none_at(value: &Value, key: &str) -> Option<Option<ObjId>>
+    ensures { result ≡ id_or_none_at key.now (view value.now) }
+{
+    let number = whole_at(value, key, 0, MAX_ID)?;
+    if number == 0 {
+        Some(None)
+    } else {
+        Some(Some(ObjId(number)))
+    }
+}
+
+/// The whole number of 32 bits at a key.
+pub(crate) fn signed_at(value: &Value, key: &str) -> Option<i32>
+    ensures { result ≡ signed_at key.now (view value.now) }
+{
+    i32::try_from(value.get(key)?.as_i64()?).ok()
 }
 
 /// Whether `true` stands at a key.
