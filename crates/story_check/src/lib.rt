@@ -5,9 +5,13 @@ ghost use Rattle.std.specs.Prelude.{◌≡◌, ℕ, ◌≤◌, List};
 ghost use Rattle.story_check.specs.declared.story.PageLine.{PageLine};
 ghost use Rattle.story_check.specs.Stories.{flushes, cap};
 
+mod accepting;
+mod refusals;
 mod story;
 mod waits;
 
+pub use accepting::accept;
+pub use refusals::{AcceptFail, Cause, Refusal};
 pub use story::{ClientLine, PageLine, Story, close};
 pub use waits::stuck;
 
