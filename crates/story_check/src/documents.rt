@@ -57,13 +57,13 @@ fn flushed_dom(
     alloc: Global,
     mut document: Dom,
     page: &[PageLine],
-    flushes: u32,
+    count: u32,
 ) -> Result<Dom, NoMemory>
     requires accepted { AreLinesAccepted document page.now }
-    requires all { flushes ≡ flushes page.now }
-    ensures { IfOk result (λ d. d ≡ after_flushes document page.now flushes) }
+    requires all { count ≡ flushes page.now }
+    ensures { IfOk result (λ d. d ≡ after_flushes document page.now count) }
 {
-    let mut left = flushes;
+    let mut left = count;
     for line in page {
         if left == 0 {
             return Ok(document);
