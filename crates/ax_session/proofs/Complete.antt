@@ -1,9 +1,7 @@
 -- That nothing but a fault or want of memory comes between an input and its answer.
-use Rattle.std.proofs.Common.{◌≡◌, ◌⊎◌, ℕ, List, take, Option, Some, None, Ok, Err, refl, sym, ap, ◌∙◌, subst, inl, inr}
+use Rattle.std.proofs.Common.{◌≡◌, ℕ, List, Option, Some, None, refl, sym, ◌∙◌, subst, inl}
 use Rattle.std.specs.Prelude.{String}
 use Rattle.std.specs.declared.alloc.Global.{Global}
-use Rattle.ax_edge.specs.Causes.{Rose}
-use Rattle.ax_edge.specs.Transfers.{TakesInput}
 use Rattle.story_check.specs.Stories.{Script}
 use Rattle.ax_session.specs.declared.words.Command.{Command}
 use Rattle.ax_session.specs.declared.words.Command.TheVariants.{Dump, Replay}
@@ -13,7 +11,7 @@ use Rattle.ax_session.specs.declared.story.Refusal.{Refusal}
 use Rattle.ax_session.specs.Command.{command_of}
 use Rattle.ax_session.specs.Story.{Accepted, IsRefused}
 use Rattle.ax_session.specs.Texts.{text_of}
-use Rattle.ax_session.specs.TopCall.{Does, IsGood, Refuses, MayAnswer, Completes, IsOrNoMemory, IsComplete, TakesFor, HasInput}
+use Rattle.ax_session.specs.TopCall.{Does, IsGood, Refuses, MayAnswer, Completes, IsComplete, TakesFor, HasInput}
 
 -- no input is both done and refused
 good_apart : (command : Command) (input : List ℕ) (refusal : Refusal) → IsGood command input → Refuses command input refusal → ⊥

@@ -1,7 +1,7 @@
 -- The ids that are gathered are those of the story's buttons and texts.
 use Rattle.std.proofs.Common.{◌≡◌, ℕ, List, [], ◌∷◌, ◌++◌, Bool, true, false, not, cond, ◌&&◌, ◌||◌, ◌==◌, refl, sym, ap, ◌∙◌}
 use Rattle.std.specs.Prelude.{IsTrue, codes}
-use Rattle.std.specs.List.{list_all, list_any}
+use Rattle.std.specs.List.{list_all}
 use Rattle.std.proofs.lemmas.Bool.{false≢true}
 use Rattle.std.proofs.lemmas.List.Elements.{All-weaker}
 use Rattle.std.proofs.lemmas.List.Folds.{list_all-append}
@@ -9,12 +9,12 @@ use Rattle.std.proofs.lemmas.List.Sums.{AllPass-from_list_all}
 use Rattle.std.specs.Ordering.{nat_cmp}
 use Rattle.std.specs.Str.{bytes_eq}
 use Rattle.std.specs.BTreeSet.{insert_key}
-use Rattle.ax_base.specs.Characters.{Chars}
-use Rattle.ax_base.proofs.Lookups.{finds, finds_is, list_any-insert_key}
+use Rattle.ax_base.proofs.Lookups.{finds_is, list_any-insert_key}
 use Rattle.ax_dom.specs.declared.edit.Edit.{Edit}
 use Rattle.ax_dom.specs.declared.edit.Edit.TheVariants.{InsertElement, InsertText, Chars as NewChars, Set}
 use Rattle.ax_ask.specs.declared.requests.Request.{Request}
 use Rattle.ax_ask.specs.declared.requests.Request.TheVariants.{Root, Focus, Role, Name, Description, Value, States, Level, Live, Frame, Parent, Children, Compare, NextChar, PrevChar, NextWord, LineAt, TextOf, BoundsOf, Search, Hit}
+use Rattle.story_check.specs.declared.story.PageLine.{PageLine}
 use Rattle.story_check.specs.declared.story.ClientLine.{ClientLine}
 use Rattle.story_check.specs.declared.story.ClientLine.TheVariants.{Ask, Again, Hear, Await, Notices}
 use Rattle.story_check.specs.Stories.{Script}
@@ -67,6 +67,18 @@ buttons_after n ids (e ∷ es) = buttons_after n (after_edit ids e) es ∙ ap (�
 texts_after : (n : ℕ) (ids : Ids) (es : List Edit) → holds (after_edits ids es).texts n ≡ (holds ids.texts n || is_text es n)
 texts_after n ids [] = or_false (holds ids.texts n)
 texts_after n ids (e ∷ es) = texts_after n (after_edit ids e) es ∙ ap (λ b. b || is_text es n) (text_after n ids e) ∙ or_assoc (holds ids.texts n) (inserts_text n e) (is_text es n)
+
+gathered_both : (ids : Ids) (xs ys : List Edit) → after_edits (after_edits ids xs) ys ≡ after_edits ids (xs ++ ys)
+gathered_both ids [] ys = refl
+gathered_both ids (x ∷ xs) ys = gathered_both (after_edit ids x) xs ys
+
+-- what is gathered from the edits before the start and then from the page is that of the whole story
+pub gathered : (s : Script) (start mid last : Ids) (base : List Edit) (page : List PageLine) → start ≡ no_ids → base ≡ s.base → page ≡ s.page
+    → mid ≡ after_edits start base → last ≡ after_edits mid (changes page) → last ≡ after_edits no_ids (edits_of s)
+gathered s start mid last base page first b p m l =
+    l ∙ ap (λ xs. after_edits mid (changes xs)) p
+    ∙ ap (λ ids. after_edits ids (changes s.page)) (m ∙ ap (after_edits start) b ∙ ap (λ ids. after_edits ids s.base) first)
+    ∙ gathered_both no_ids s.base (changes s.page)
 
 -- the edits that are built, by two tests that agree
 module _ (f g t u : ℕ → Bool) (buttons : (n : ℕ) → f n ≡ g n) (texts : (n : ℕ) → t n ≡ u n) where
@@ -129,4 +141,4 @@ pub built_is_answered : (s : Script) → is_built s ≡ true → AreAnswered s.c
 unfolding is_built
 built_is_answered s h =
     All-weaker (λ x. is_built_line x ≡ true) (λ x. IsTrue (is_answered_line x)) answered_line s.client
-        (AllPass-from_list_all is_built_line s.client (right_of _ (list_all is_built_line s.client) h))
+    (AllPass-from_list_all is_built_line s.client (right_of _ (list_all is_built_line s.client) h))

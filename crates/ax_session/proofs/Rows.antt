@@ -5,9 +5,8 @@ use lib.Utf8.{encode}
 use Rattle.std.specs.Str.{chars}
 use Rattle.ax_base.specs.Characters.{tokens, flat}
 use Rattle.ax_base.specs.Recursion.{from_below}
-use Rattle.ax_base.specs.Document.{Document, root, lineage_within}
+use Rattle.ax_base.specs.Document.{root, lineage_within}
 use Rattle.ax_base.specs.Quoting.{quoted_char}
-use Rattle.ax_base.specs.declared.attrs.Attr.{Attr}
 use Rattle.ax_dom.specs.declared.edit.Edit.TheVariants.{InsertElement, InsertText}
 use Rattle.ax_dom.specs.Changes.{new_document, edited}
 use Rattle.ax_record.specs.Records.{tree}

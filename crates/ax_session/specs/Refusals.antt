@@ -1,5 +1,5 @@
 -- What is written for a refusal.
-use Rattle.std.specs.Prelude.{ℕ, List, ◌++◌, codes}
+use Rattle.std.specs.Prelude.{◌++◌, codes}
 use Rattle.std.specs.Fmt.{decimal}
 use Rattle.ax_base.specs.Characters.{Chars}
 use Rattle.story_check.specs.declared.refusals.Cause.{Cause as StoryCause}

@@ -141,7 +141,10 @@ fn is_built_edit(kinds: &Kinds, edit: &Edit) -> bool
 {
     match edit {
         Edit::InsertElement {
-            into, tag, attrs, ..
+            into,
+            tag,
+            attrs,
+            ..
         } => is_built_tag(tag) && are_built_attrs(attrs) && !kinds.is_button(*into),
         Edit::InsertText { .. } => true,
         Edit::Chars { .. } => true,

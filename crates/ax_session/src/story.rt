@@ -8,8 +8,10 @@ ghost use Rattle.ax_session.specs.Story.{of_story, if_built, judged, Accepts, Is
 use crate::built::is_built;
 use ax_base::NoMemory;
 use std::alloc::Global;
-use story_check::{AcceptFail as StoryFail, Cause as StoryCause, Refusal as StoryRefusal};
-use story_check::{Story, accept as accept_story};
+use story_check::{
+    AcceptFail as StoryFail, Cause as StoryCause, Refusal as StoryRefusal, Story,
+    accept as accept_story,
+};
 
 /// Why an input is refused.
 #[derive(Clone, Copy, Debug, PartialEq, Eq)]
