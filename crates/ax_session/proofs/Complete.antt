@@ -1,25 +1,26 @@
 -- That nothing but a fault or want of memory comes between an input and its answer.
-use Rattle.std.proofs.Common.{◌≡◌, ◌⊎◌, ℕ, List, take, Option, Some, None, Ok, Err, refl, sym, ap, ◌∙◌, subst, inl, inr}
+use Rattle.std.proofs.Common.{◌≡◌, ℕ, List, Option, Some, None, refl, sym, ◌∙◌, subst, inl}
 use Rattle.std.specs.Prelude.{String}
 use Rattle.std.specs.declared.alloc.Global.{Global}
-use Rattle.ax_edge.specs.Causes.{Rose}
-use Rattle.ax_edge.specs.Transfers.{TakesInput}
-use Rattle.ax_base.specs.Document.{Document}
+use Rattle.story_check.specs.Stories.{Script}
 use Rattle.ax_session.specs.declared.words.Command.{Command}
-use Rattle.ax_session.specs.declared.words.Command.TheVariants.{Dump}
+use Rattle.ax_session.specs.declared.words.Command.TheVariants.{Dump, Replay}
 use Rattle.ax_session.specs.declared.words.Status.{Status}
 use Rattle.ax_session.specs.declared.words.Status.TheVariants.{Done, Refused, ReadFault, WriteFault, NoMemory, Words}
 use Rattle.ax_session.specs.declared.story.Refusal.{Refusal}
 use Rattle.ax_session.specs.Command.{command_of}
 use Rattle.ax_session.specs.Story.{Accepted, IsRefused}
-use Rattle.ax_session.specs.TopCall.{Does, IsGood, Refuses, MayAnswer, Completes, IsOrNoMemory, IsComplete, TakesFor, HasInput}
+use Rattle.ax_session.specs.Texts.{text_of}
+use Rattle.ax_session.specs.TopCall.{Does, IsGood, Refuses, MayAnswer, Completes, IsComplete, TakesFor, HasInput}
 
 -- no input is both done and refused
 good_apart : (command : Command) (input : List ℕ) (refusal : Refusal) → IsGood command input → Refuses command input refusal → ⊥
 good_apart Dump input refusal h r = let e = sym h.1 ∙ r in cc
+good_apart Replay input refusal h r = let e = sym h.1 ∙ r in cc
 
 done_is_good : (command : Command) (input text : List ℕ) → Does command input text → IsGood command input
 done_is_good Dump input text h = (h.0, h.1)
+done_is_good Replay input text h = (h.0, h.1)
 
 -- an answer to an input is the one that it has
 answers : (command : Command) (input : List ℕ) (status : Status) (text : List ℕ) → MayAnswer command input status text → Completes command input status
@@ -34,6 +35,8 @@ answers command input Words text h = absurd h
 one_input : (command : Command) (left new : Option (List ℕ)) (taken input : List ℕ) → TakesFor command left new taken → HasInput command left input → taken ≡ input
 one_input Dump None new taken input t h = absurd h
 one_input Dump (Some bytes) new taken input t h = t.is_all ∙ sym h
+one_input Replay None new taken input t h = absurd h
+one_input Replay (Some bytes) new taken input t h = t.is_all ∙ sym h
 
 pub complete_from : (words : List (String Global)) (mine : Command) (left new : Option (List ℕ)) (reads reads' writes writes' : ℕ) (taken input : List ℕ) (status : Status) (text : List ℕ)
     → command_of words ≡ Some mine → TakesFor mine left new taken → input ≡ taken → MayAnswer mine input status text → IsComplete words left reads reads' writes writes' status
@@ -41,3 +44,13 @@ complete_from words mine left new reads reads' writes writes' taken input status
     let same : mine ≡ command = cc in
     let read : taken ≡ other = one_input command left new taken other (subst (λ c. TakesFor c left new taken) same t) l in
     answers command other status text (subst (λ c. MayAnswer c other status text) same (subst (λ i. MayAnswer mine i status text) (e ∙ read) h))
+
+-- what a command writes of an accepted story
+pub does : (command : Command) (input : List ℕ) (story : Script) (text : List ℕ) → Accepted input story → text ≡ text_of command story → Does command input text
+does Dump input story text a t = (story, a, t)
+does Replay input story text a t = (story, a, t)
+
+-- what every command answers to an input that is refused
+pub refuses : (command : Command) (input : List ℕ) (refusal : Refusal) → IsRefused input refusal → Refuses command input refusal
+refuses Dump input refusal r = r
+refuses Replay input refusal r = r

@@ -1,5 +1,4 @@
-pub mod LineSteps
-pub mod Judging
+pub mod KindLaws
 pub mod Complete
 pub mod Lines
 pub mod Rows

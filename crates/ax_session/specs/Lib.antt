@@ -1,5 +1,7 @@
 pub mod Command
+pub mod Built
+pub mod Kinds
 pub mod Story
-pub mod Dump
+pub mod Texts
 pub mod Refusals
 pub mod TopCall

@@ -1,35 +1,39 @@
 -- What the top call promises. Each command has one row in each of the first definitions; those after them are the same for all commands.
-use Rattle.std.specs.Prelude.{◌≡◌, ◌↔◌, ◌⊎◌, ℕ, ◌+◌, ◌^◌, List, Option, Some, None, String, take, IsSomeAnd}
+use Rattle.std.specs.Prelude.{◌≡◌, ◌⊎◌, ℕ, ◌+◌, ◌^◌, List, Option, Some, String, take, IsSomeAnd}
 use Rattle.std.specs.declared.alloc.Global.{Global}
 use Rattle.std.specs.Io.KnownBytes.{Appends}
 use Rattle.ax_edge.specs.Causes.{Rose}
 use Rattle.ax_edge.specs.Transfers.{TakesInput, AddsFront}
-use Rattle.ax_base.specs.Document.{Document}
+use Rattle.story_check.specs.Stories.{Script}
 use Rattle.ax_session.specs.declared.words.Command.{Command}
-use Rattle.ax_session.specs.declared.words.Command.TheVariants.{Dump}
+use Rattle.ax_session.specs.declared.words.Command.TheVariants.{Dump, Replay}
 use Rattle.ax_session.specs.declared.words.Status.{Status}
 use Rattle.ax_session.specs.declared.words.Status.TheVariants.{Done, Refused, ReadFault, WriteFault, NoMemory, Words}
 use Rattle.ax_session.specs.declared.story.Refusal.{Refusal}
 use Rattle.ax_session.specs.Command.{command_of}
-use Rattle.ax_session.specs.Dump.{dump_text}
 use Rattle.ax_session.specs.Refusals.{refusal_text}
 use Rattle.ax_session.specs.Story.{Accepted, IsRefused}
+use Rattle.ax_session.specs.Texts.{dump_text, replay_text}
 
 -- the input is one that the command does, and this text shows what it comes to
 abbrev pub Does : Command → List ℕ → List ℕ → Type 0
-Does Dump input text = (story : Document) × Accepted input story × (text ≡ dump_text story)
+Does Dump input text = (story : Script) × Accepted input story × (text ≡ dump_text story)
+Does Replay input text = (story : Script) × Accepted input story × (text ≡ replay_text story)
 
 -- the input is one that the command does
 abbrev pub IsGood : Command → List ℕ → Type 0
-IsGood Dump input = (story : Document) × Accepted input story
+IsGood Dump input = (story : Script) × Accepted input story
+IsGood Replay input = (story : Script) × Accepted input story
 
 -- this is the refusal of the input
 abbrev pub Refuses : Command → List ℕ → Refusal → Type 0
 Refuses Dump input refusal = IsRefused input refusal
+Refuses Replay input refusal = IsRefused input refusal
 
 -- a command that reads the source
 abbrev pub IsReader : Command → Type 0
 IsReader Dump = Unit {0}
+IsReader Replay = Unit {0}
 
 -- for this input the command may answer so and write this text
 abbrev pub MayAnswer : Command → List ℕ → Status → List ℕ → Type 0
@@ -47,10 +51,12 @@ most_read = 2 ^ 24 + 1
 -- the input of a command, where the source tells what it has left
 abbrev pub HasInput : Command → Option (List ℕ) → List ℕ → Type 0
 HasInput Dump left input = IsSomeAnd left (λ bytes. input ≡ take most_read bytes)
+HasInput Replay left input = IsSomeAnd left (λ bytes. input ≡ take most_read bytes)
 
 -- the input of a command was taken from the source, and nothing else
 abbrev pub TakesFor : Command → Option (List ℕ) → Option (List ℕ) → List ℕ → Type 0
 TakesFor Dump left left' input = TakesInput most_read left left' input
+TakesFor Replay left left' input = TakesInput most_read left left' input
 
 -- the input was taken and nothing else, and this text is the answer to it
 pub record Replies (words : List (String Global)) (left left' : Option (List ℕ)) (status : Status) (text : List ℕ) : Type 0 where

@@ -1,30 +1,33 @@
-//! The text of a document's tree.
+//! The text of a story's last tree.
 ghost use Rattle.std.specs.Prelude.{◌≡◌, ◌++◌, ◌∷◌, [], IfOk, OnOk, string_bytes, codes};
 ghost use Rattle.std.specs.List.{flat_map};
 ghost use Rattle.std.specs.Fmt.{decimal};
 ghost use Rattle.ax_base.specs.Quoting.{quoted};
-ghost use Rattle.ax_session.specs.Dump.{number_of, record_line, lines_within, end_line, dump_text};
+ghost use Rattle.story_check.specs.Moments.{IsAccepted};
+ghost use Rattle.ax_ask.specs.Transcripts.{end_line};
+ghost use Rattle.ax_session.specs.Texts.{number_of, record_line, lines_within, dump_text};
 
-use ax_base::{NoMemory, ObjId, Steps, Text, push_quoted, role_word};
-use ax_dom::Dom;
-use ax_fresh::build;
+use ax_base::{NoMemory, ObjId, Text, push_quoted, role_word};
 use ax_record::{FreshTree, Record, TreeView};
+use ax_world::tree_of;
 use std::alloc::Global;
 use std::fmt::Write;
-use std::sync::ledger::Ledger;
+use story_check::{Story, last_dom};
 
 /// How far below the root the tree is written. No object is deeper.
 const LEVELS: u32 = 128;
 
-/// What `dump` writes of a document without a flush: a line `ID PARENT ROLE "NAME"` for each object of its tree in
-/// preorder, with 0 for the parent of the root, and then `end 0`.
-pub fn dump<L: Ledger>(alloc: Global, dom: &Dom, steps: &mut Steps<L>) -> Result<Text, NoMemory>
-    ensures { IfOk result (λ text. text ≡ dump_text dom.now) }
+/// What `dump` writes of an accepted story: a line `ID PARENT ROLE "NAME"` for each object of the tree of its last moment in
+/// preorder, with 0 for the parent of the root, and then `end` and the number of its flushes.
+pub fn dump(alloc: Global, story: &Story) -> Result<Text, NoMemory>
+    requires { IsAccepted story.now }
+    ensures { IfOk result (λ text. text ≡ dump_text story.now) }
 {
-    let tree = build(alloc, dom, steps)?;
+    let document = last_dom(alloc, story)?;
+    let tree = tree_of(alloc, &document)?;
     let mut out = String::new(alloc);
     push_object(&tree, tree.root(), LEVELS, &mut out)?;
-    push_end(&mut out, 0)?;
+    push_end(&mut out, story.flushes())?;
     Ok(Text::from_string(out))
 }
 

@@ -1,8 +1,10 @@
 //! The commands of the accessibility core, from bytes to bytes.
 #![tactic(auto)]
 
+mod built;
 mod dump;
 mod refusals;
+mod replay;
 mod story;
 mod top;
 mod words;

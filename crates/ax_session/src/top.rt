@@ -1,20 +1,22 @@
 //! The top call: from words and bytes to a status and bytes.
-ghost use Rattle.std.specs.Prelude.{◌≡◌, ◌↔◌, ◌<◌, None, IfOk, IsErrOf};
+ghost use Rattle.std.specs.Prelude.{◌≡◌, ◌↔◌, None, IfOk, IsErrOf};
 ghost use Rattle.ax_edge.specs.Causes.{Rose};
 ghost use Rattle.ax_session.specs.Command.{command_of};
+ghost use Rattle.ax_session.specs.Story.{IsReady};
+ghost use Rattle.ax_session.specs.Texts.{text_of};
 ghost use Rattle.ax_session.specs.TopCall.{IsReader, TakesFor, MayAnswer, StatusMeans, IsComplete};
 
 use crate::dump::dump;
 use crate::refusals::refusal_line;
+use crate::replay::replay_text;
 use crate::story::accept;
 use crate::{AcceptFail, Command, Status, command_of};
-use ax_base::{NoMemory, Steps, Text};
+use ax_base::{NoMemory, Text};
 use ax_edge::{Gate, ReadError, Sink, Source, Spawner, read_input, write_whole};
 use std::alloc::Global;
-use std::marker::Brand;
 use std::sync::Wait;
-use std::sync::ledger::{Blank, Ledger};
 use std::thread::Threads;
+use story_check::Story;
 
 /// Does the command that the words name: reads its input to the end, does the work, and writes the whole text.
 ///
@@ -81,6 +83,7 @@ fn input_of<I: Source>(
 {
     match command {
         Command::Dump => read_input(alloc, source, MOST_READ),
+        Command::Replay => read_input(alloc, source, MOST_READ),
     }
 }
 
@@ -94,34 +97,26 @@ struct Reply {
 fn reply_to(alloc: Global, command: Command, input: &[u8]) -> Result<Reply, NoMemory>
     ensures { IfOk result (λ reply. MayAnswer command input.now reply.status reply.text) }
 {
-    counted_reply::<Brand>(alloc, command, input, Blank::new(1))
-}
-
-/// The reply, where the reads of the document are counted on a ledger that this blank opens.
-fn counted_reply<L: Ledger>(
-    alloc: Global,
-    command: Command,
-    input: &[u8],
-    blank: Blank,
-) -> Result<Reply, NoMemory>
-    requires name { blank.name ≡ L.name }
-    requires parts { blank.parts ≡ L.parts }
-    requires some { 0 < blank.parts }
-    ensures { IfOk result (λ reply. MayAnswer command input.now reply.status reply.text) }
-{
-    let (book, share) = blank.open::<L>();
-    let mut steps = Steps::new(book, share);
-    match accept(alloc, input, &mut steps) {
-        Ok(dom) => match command {
-            Command::Dump => Ok(Reply {
-                status: Status::Done,
-                text: dump(alloc, &dom, &mut steps)?,
-            }),
-        },
+    match accept(alloc, input) {
+        Ok(story) => Ok(Reply {
+            status: Status::Done,
+            text: text_of(alloc, command, &story)?,
+        }),
         Err(AcceptFail::Refused(refusal)) => Ok(Reply {
             status: Status::Refused,
             text: refusal_line(alloc, refusal)?,
         }),
         Err(AcceptFail::NoMemory) => Err(NoMemory),
+    }
+}
+
+/// What a command writes of a story that is accepted and built.
+fn text_of(alloc: Global, command: Command, story: &Story) -> Result<Text, NoMemory>
+    requires { IsReady story.now }
+    ensures { IfOk result (λ text. text ≡ text_of command story.now) }
+{
+    match command {
+        Command::Dump => dump(alloc, story),
+        Command::Replay => replay_text(alloc, story),
     }
 }

@@ -5,8 +5,10 @@ ghost use Rattle.ax_session.specs.Command.{command_of, status_number};
 /// What the program is asked to do.
 #[derive(Clone, Copy, Debug, PartialEq, Eq)]
 pub enum Command {
-    /// Write the tree of a story.
+    /// Write the last tree of a story.
     Dump,
+    /// Play a story, and write what its client was told.
+    Replay,
 }
 
 /// How the top call ends.
@@ -50,6 +52,8 @@ pub fn command_of(words: &[String]) -> Option<Command>
         [word] => {
             if word.as_str() == "dump" {
                 Some(Command::Dump)
+            } else if word.as_str() == "replay" {
+                Some(Command::Replay)
             } else {
                 None
             }

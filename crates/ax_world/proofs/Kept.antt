@@ -45,6 +45,11 @@ tree_next : (s : Script) (d : Document) (p : ℕ) (t : Tree) → document_at s (
 unfolding tree_at
 tree_next s d p t e f = f ∙ ap tree (sym e)
 
+-- the document of moment 0 is that of the edits before the start
+pub base_is : (s : Script) → document_at s 0 ≡ after_edits new_document s.base
+unfolding document_at
+base_is s = refl
+
 pub kept_start : (s : Script) (entries : List Entry) (document : Document) (mine : Tree) → document ≡ after_edits new_document s.base → mine ≡ tree document → AreLinesAccepted (after_edits new_document s.base) s.page → AreAnswered s.client → IsKept s (record start { entries = entries }) document None mine
 kept_start s entries document mine d m a q = record {
   left = omega arith;

@@ -11,6 +11,7 @@ mod page;
 mod turns;
 mod world;
 
+pub use page::tree_of;
 pub use turns::Turn;
 pub use world::{World, replay};
 

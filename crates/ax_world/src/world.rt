@@ -10,7 +10,7 @@ ghost use Rattle.ax_world.specs.Machine.{start, step, page_step, client_step, pr
 ghost use Rattle.ax_world.specs.Worlds.{Gives};
 
 use crate::Turn;
-use crate::page::{change, document_of, tree_of};
+use crate::page::tree_of;
 use ax_answer::answer;
 use ax_ask::{Entries, Entry, EntryBody, Reply, Request, Transcript};
 use ax_base::{Moment, NoMemory, Notices, Who};
@@ -19,7 +19,7 @@ use ax_record::FreshTree;
 use std::alloc::Global;
 use std::marker::Model;
 use std::snapshot::Snapshot;
-use story_check::{ClientLine, PageLine, Story};
+use story_check::{ClientLine, PageLine, Story, base_dom, change};
 
 /// The core between two turns: what the page and the client keep. A clause sees it as the story and the machine's state.
 #[derive(Drop)]
@@ -57,7 +57,7 @@ impl World {
         requires answered { AreAnswered story.now.client }
         ensures { IfOk result (λ w. w ≡ record { story = story.now; state = start }) }
     {
-        let document = document_of(alloc, story.base())?;
+        let document = base_dom(alloc, story)?;
         let mine = tree_of(alloc, &document)?;
         Ok(World {
             story: Snapshot::of(story),

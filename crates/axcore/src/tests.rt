@@ -59,7 +59,7 @@ fn run<R: Threads + Wait + Sync>(
     Ok(Ran { status, out })
 }
 
-/// A story, and what `dump` answers to it.
+/// A command, its input, and what it answers.
 #[derive(Drop)]
 struct Case {
     words: &'static str,
@@ -68,21 +68,21 @@ struct Case {
     out: &'static str,
 }
 
-const fn done(input: &'static str, out: &'static str) -> Case {
+const fn done(words: &'static str, input: &'static str, out: &'static str) -> Case {
     Case {
-        words: "dump",
+        words,
         input,
         status: Status::Done,
         out,
     }
 }
 
-const fn refused(input: &'static str) -> Case {
+const fn refused(input: &'static str, out: &'static str) -> Case {
     Case {
-        words: "dump",
+        words: "replay",
         input,
         status: Status::Refused,
-        out: "refused 0 NotBuilt\n",
+        out,
     }
 }
 
@@ -102,32 +102,76 @@ fn holds<R: Threads + Wait + Sync>(rt: &R, alloc: Global, case: &Case) -> Result
 }
 
 #[test]
-fn commands_answer(rt: HostRuntime) -> Result<(), Fail> {
+fn dump_writes_the_last_tree(rt: HostRuntime) -> Result<(), Fail> {
     let cases = [
-        done("{\"start\":1}\n", "1 0 document \"\"\nend 0\n"),
-        done(SAVE, SAVED),
+        done("dump", "{\"start\":1}", "1 0 document \"\"\nend 0\n"),
+        done("dump", SAVE, SAVED),
         done(
-            "{\"insert\":7,\"into\":1,\"tag\":\"main\"}\n{\"insert\":3,\"into\":7,\"tag\":\"article\",\"attrs\":{}}\n{\"insert\":5,\"into\":3,\"tag\":\"button\",\"attrs\":{\"aria-label\":\"  a\\t b \\\"\\u0001\"}}\n{\"insert\":4,\"into\":7,\"tag\":\"button\",\"attrs\":{\"aria-label\":\" \"}}\n{\"start\":1}\n",
-            "1 0 document \"\"\n7 1 main \"\"\n3 7 article \"\"\n5 3 button \"a b \\\"\\u0001\"\n4 7 button \"\"\nend 0\n",
-        ),
-        refused(""),
-        refused("{\"start\":1}"),
-        refused("\n{\"start\":1}\n"),
-        refused("{\"start\":1}\n{\"start\":1}\n"),
-        refused("{\"flush\":true}\n"),
-        refused("{\"insert\":2,\"into\":1,\"tag\":\"div\"}\n{\"start\":1}\n"),
-        refused(
-            "{\"insert\":2,\"into\":1,\"tag\":\"main\",\"attrs\":{\"title\":\"t\"}}\n{\"start\":1}\n",
-        ),
-        refused(
-            "{\"insert\":2,\"into\":1,\"tag\":\"button\"}\n{\"insert\":3,\"into\":2,\"tag\":\"main\"}\n{\"start\":1}\n",
-        ),
-        refused(
-            "{\"insert\":2,\"into\":1,\"tag\":\"main\"}\n{\"insert\":2,\"into\":1,\"tag\":\"main\"}\n{\"start\":1}\n",
+            "dump",
+            "{\"insert\":7,\"into\":1,\"tag\":\"main\"}\n \n{\"insert\":3,\"into\":7,\"tag\":\"article\",\"attrs\":{}}\n{\"insert\":5,\"into\":3,\"tag\":\"button\",\"attrs\":{\"aria-label\":\"  a\\t b \\\"\\u0001\"}}\n{\"start\":1}\n{\"insert\":4,\"into\":7,\"tag\":\"button\",\"attrs\":{\"aria-label\":\" \"}}\n",
+            "1 0 document \"\"\n7 1 main \"\"\n3 7 article \"\"\n5 3 button \"a b \\\"\\u0001\"\n4 7 button \"\"\nend 1\n",
         ),
         no_command(""),
         no_command("dump x"),
         no_command("Dump"),
+    ];
+    for case in &cases {
+        assert!(rt; holds(&rt, rt.alloc(), case)?, "{}", case.input);
+    }
+    Ok(())
+}
+
+#[test]
+fn replay_tells_what_the_client_heard(rt: HostRuntime) -> Result<(), Fail> {
+    let cases = [
+        done(
+            "replay",
+            "{\"insert\":2,\"into\":1,\"tag\":\"button\"}\n{\"insert\":3,\"into\":2,\"text\":\"Save\"}\n{\"start\":1}\n{\"turns\":\"PPCPPCC\"}\n{\"text\":3,\"to\":\"B\"}\n{\"flush\":true}\n{\"text\":3,\"to\":\"C\"}\n{\"flush\":true}\n{\"ask\":{\"q\":\"name\",\"id\":2}}\n{\"again\":{\"q\":\"name\",\"id\":2}}\n{\"ask\":{\"q\":\"name\",\"id\":2}}\n",
+            "#1 @1 name \"B\"\n#2 @1 name \"B\"\n#3 @2 name \"C\"\nend 2\n",
+        ),
+        done(
+            "replay",
+            "{\"insert\":2,\"into\":1,\"tag\":\"main\"}\n{\"insert\":3,\"into\":2,\"text\":\" \"}\n{\"insert\":4,\"into\":2,\"text\":\"Hi\"}\n{\"start\":1}\n{\"ask\":{\"q\":\"children\",\"id\":2}}\n{\"ask\":{\"q\":\"role\",\"id\":3}}\n{\"ask\":{\"q\":\"children\",\"id\":2,\"from\":5}}\n",
+            "#1 @0 children 1 4\n#2 @0 stale\n#3 @0 children 1\nend 0\n",
+        ),
+        done(
+            "replay",
+            "{\"start\":1}\n{\"turns\":\"CPC\"}\n{\"flush\":true}\n{\"hear\":true}\n{\"await\":1}\n",
+            "#1 @0 hear\n#2 @1 await\nend 1\n",
+        ),
+    ];
+    for case in &cases {
+        assert!(rt; holds(&rt, rt.alloc(), case)?, "{}", case.input);
+    }
+    Ok(())
+}
+
+#[test]
+fn what_is_refused_says_where_and_why(rt: HostRuntime) -> Result<(), Fail> {
+    let cases = [
+        refused("", "refused 0 NoStart\n"),
+        refused("{\"flush\":true}\n", "refused 1 NoStart\n"),
+        refused("{\"start\":1}\n{\"flush\":", "refused 2 BadJson\n"),
+        refused(
+            "{\"start\":1}\n{\"until\":1}\n{\"flush\":true}\n{\"await\":1}\n",
+            "refused 0 Stuck\n",
+        ),
+        refused(
+            "{\"insert\":2,\"into\":1,\"tag\":\"div\"}\n{\"insert\":2,\"into\":1,\"tag\":\"div\"}\n",
+            "refused 2 UsedId\n",
+        ),
+        refused(
+            "{\"insert\":2,\"into\":1,\"tag\":\"div\"}\n{\"start\":1}\n",
+            "refused 0 NotBuilt\n",
+        ),
+        refused(
+            "{\"insert\":2,\"into\":1,\"tag\":\"button\"}\n{\"insert\":3,\"into\":2,\"tag\":\"main\"}\n{\"start\":1}\n",
+            "refused 0 NotBuilt\n",
+        ),
+        refused(
+            "{\"start\":1}\n{\"notices\":true}\n",
+            "refused 0 NotBuilt\n",
+        ),
     ];
     for case in &cases {
         assert!(rt; holds(&rt, rt.alloc(), case)?, "{}", case.input);

@@ -1,3 +1,4 @@
 pub mod Stories
 pub mod Moments
 pub mod Passes
+pub mod Acceptance

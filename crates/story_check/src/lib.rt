@@ -5,9 +5,15 @@ ghost use Rattle.std.specs.Prelude.{◌≡◌, ℕ, ◌≤◌, List};
 ghost use Rattle.story_check.specs.declared.story.PageLine.{PageLine};
 ghost use Rattle.story_check.specs.Stories.{flushes, cap};
 
+mod accepting;
+mod documents;
+mod refusals;
 mod story;
 mod waits;
 
+pub use accepting::accept;
+pub use documents::{base_dom, change, last_dom};
+pub use refusals::{AcceptFail, Cause, Refusal};
 pub use story::{ClientLine, PageLine, Story, close};
 pub use waits::stuck;
 

@@ -1,6 +1,6 @@
 use Rattle.std.proofs.Common.{◌≡◌, ◌+◌, ◌*◌, ◌++◌, take, string_bytes}
 use Rattle.std.specs.List.{flat_map}
-use Rattle.ax_session.specs.Dump.{lines_within}
+use Rattle.ax_session.specs.Texts.{lines_within}
 use Rattle.ax_session.proofs.dump.+walk.Given as goal
 
 abbrev pub decreases-push_object : goal.decreases-push_object

@@ -1,7 +1,7 @@
 use Rattle.std.proofs.Common.{◌≡◌, drop}
 use Rattle.ax_dom.specs.Changes.{new_document}
 use Rattle.story_check.specs.Moments.{after_edits, AreAccepted}
-use Rattle.ax_world.proofs.page.document_of.Given as goal
+use Rattle.story_check.proofs.documents.document_of.Given as goal
 
 abbrev pub invariant-loop-edit : goal.invariant-loop-edit
 invariant-loop-edit l = record {

@@ -1,0 +1,206 @@
+//! Which accepted stories are built today.
+ghost use Rattle.std.specs.Prelude.{◌≡◌, ◌++◌, IfOk, OnOk};
+ghost use Rattle.std.specs.List.{list_all};
+ghost use Rattle.ax_session.specs.Built.{is_built_tag, is_built_name, are_built_attrs, is_built_edit, is_built_request, is_built_line, changes, edits_of, is_built};
+ghost use Rattle.ax_session.specs.Kinds.{no_ids, holds, after_edit, after_edits, has_built_parts};
+
+use ax_ask::Request;
+use ax_base::{Attrs, NoMemory, ObjId, Text};
+use ax_dom::Edit;
+use std::alloc::Global;
+use std::collections::BTreeSet;
+use std::marker::Model;
+use story_check::{ClientLine, PageLine, Story};
+
+/// The ids that a story inserts as buttons and as texts. A clause sees them as two rising lists.
+#[derive(Drop)]
+struct Kinds {
+    buttons: BTreeSet<u32>,
+    texts: BTreeSet<u32>,
+}
+
+impl Model for Kinds {
+    ghost use Rattle.ax_session.specs.Kinds.{Ids};
+
+    ghost Value = { Ids };
+
+    ghost view = { λ k. record { buttons = k.buttons.keys; texts = k.texts.keys } };
+}
+
+impl Kinds {
+    fn new(alloc: Global) -> Kinds
+        ensures { result ≡ no_ids }
+    {
+        Kinds {
+            buttons: BTreeSet::new(alloc),
+            texts: BTreeSet::new(alloc),
+        }
+    }
+
+    fn is_button(&self, id: ObjId) -> bool
+        ensures { result ≡ holds self.now.buttons id }
+    {
+        self.buttons.contains(&id.0)
+    }
+
+    /// Notes what an edit inserts.
+    fn note(&mut self, edit: &Edit) -> Result<(), NoMemory>
+        ensures { OnOk result (self.new ≡ after_edit self.old edit.now) }
+    {
+        match edit {
+            Edit::InsertElement { id, tag, .. } => {
+                if tag.is("button") {
+                    self.buttons.insert(id.0)?;
+                }
+            }
+            Edit::InsertText { id, .. } => {
+                self.texts.insert(id.0)?;
+            }
+            _ => {}
+        }
+        Ok(())
+    }
+}
+
+/// Whether a story is built today, if it is accepted. It reads each line twice, and looks ids up in trees. The only error is
+/// want of memory.
+#[tactic(auto, unfolding(crate::specs::Built::is_built))]
+pub fn is_built(alloc: Global, story: &Story) -> Result<bool, NoMemory>
+    ensures { IfOk result (λ built. built ≡ is_built story.now) }
+{
+    let kinds = kinds_of(alloc, story)?;
+    Ok(has_built_parts(&kinds, story))
+}
+
+/// Whether all lines of a story are built, where these are its buttons and texts.
+fn has_built_parts(kinds: &Kinds, story: &Story) -> bool
+    ensures { result ≡ has_built_parts kinds.now story.now }
+{
+    are_built_edits(kinds, story.base())
+        && are_built_changes(kinds, story.page())
+        && are_built_lines(story.client())
+}
+
+/// The buttons and texts of a story.
+fn kinds_of(alloc: Global, story: &Story) -> Result<Kinds, NoMemory>
+    ensures { IfOk result (λ kinds. kinds ≡ after_edits no_ids (edits_of story.now)) }
+{
+    let mut kinds = Kinds::new(alloc);
+    note_edits(&mut kinds, story.base())?;
+    note_changes(&mut kinds, story.page())?;
+    Ok(kinds)
+}
+
+fn note_edits(kinds: &mut Kinds, edits: &[Edit]) -> Result<(), NoMemory>
+    ensures { OnOk result (kinds.new ≡ after_edits kinds.old edits.now) }
+{
+    for edit in edits {
+        kinds.note(edit)?;
+    }
+    Ok(())
+}
+
+fn note_changes(kinds: &mut Kinds, page: &[PageLine]) -> Result<(), NoMemory>
+    ensures { OnOk result (kinds.new ≡ after_edits kinds.old (changes page.now)) }
+{
+    for line in page {
+        match line {
+            PageLine::Change(edit) => kinds.note(edit)?,
+            PageLine::Flush => {}
+            PageLine::Until(_) => {}
+        }
+    }
+    Ok(())
+}
+
+fn are_built_edits(kinds: &Kinds, edits: &[Edit]) -> bool
+    ensures { result ≡ list_all (is_built_edit (holds kinds.now.buttons) (holds kinds.now.texts)) edits.now }
+{
+    edits.iter().all(|edit| is_built_edit(kinds, edit))
+}
+
+fn are_built_changes(kinds: &Kinds, page: &[PageLine]) -> bool
+    ensures { result ≡ list_all (is_built_edit (holds kinds.now.buttons) (holds kinds.now.texts)) (changes page.now) }
+{
+    for line in page {
+        match line {
+            PageLine::Change(edit) => {
+                if !is_built_edit(kinds, edit) {
+                    return false;
+                }
+            }
+            PageLine::Flush => {}
+            PageLine::Until(_) => {}
+        }
+    }
+    true
+}
+
+fn is_built_edit(kinds: &Kinds, edit: &Edit) -> bool
+    ensures { result ≡ is_built_edit (holds kinds.now.buttons) (holds kinds.now.texts) edit.now }
+{
+    match edit {
+        Edit::InsertElement {
+            into,
+            tag,
+            attrs,
+            ..
+        } => is_built_tag(tag) && are_built_attrs(attrs) && !kinds.is_button(*into),
+        Edit::InsertText { .. } => true,
+        Edit::Chars { .. } => true,
+        Edit::Set { name, .. } => is_built_name(name),
+    }
+}
+
+fn is_built_tag(tag: &Text) -> bool
+    ensures { result ≡ is_built_tag tag.now }
+{
+    tag.is("main") || tag.is("article") || tag.is("button")
+}
+
+fn are_built_attrs(attrs: &Attrs) -> bool
+    ensures { result ≡ are_built_attrs attrs.now }
+{
+    attrs
+        .as_slice()
+        .iter()
+        .all(|attr| is_built_name(&attr.name))
+}
+
+fn is_built_name(name: &Text) -> bool
+    ensures { result ≡ is_built_name name.now }
+{
+    name.is("aria-label")
+}
+
+fn are_built_lines(client: &[ClientLine]) -> bool
+    ensures { result ≡ list_all is_built_line client.now }
+{
+    client.iter().all(is_built_line)
+}
+
+fn is_built_line(line: &ClientLine) -> bool
+    ensures { result ≡ is_built_line line.now }
+{
+    match line {
+        ClientLine::Ask(request) => is_built_request(request),
+        ClientLine::Again(request) => is_built_request(request),
+        ClientLine::Hear => true,
+        ClientLine::Await(_) => true,
+        ClientLine::Notices => false,
+    }
+}
+
+fn is_built_request(request: &Request) -> bool
+    ensures { result ≡ is_built_request request.now }
+{
+    match request {
+        Request::Root
+        | Request::Focus
+        | Request::Role(_)
+        | Request::Name(_)
+        | Request::Parent(_)
+        | Request::Children(_, _) => true,
+        _ => false,
+    }
+}
