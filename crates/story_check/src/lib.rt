@@ -1,17 +1,18 @@
-//! Stories as plain data: their lines, the documents of their moments, and whether a line of one could wait for ever.
+//! Stories: which inputs are one, their lines, the documents of their moments, and whether a line of one could wait for ever.
 #![tactic(auto)]
 
 ghost use Rattle.std.specs.Prelude.{◌≡◌, ℕ, ◌≤◌, List};
 ghost use Rattle.story_check.specs.declared.story.PageLine.{PageLine};
 ghost use Rattle.story_check.specs.Stories.{flushes, cap};
 
-mod accepting;
+mod acceptance;
 mod documents;
+mod progress;
 mod refusals;
 mod story;
 mod waits;
 
-pub use accepting::accept;
+pub use acceptance::accept;
 pub use documents::{base_dom, change, last_dom};
 pub use refusals::{AcceptFail, Cause, Refusal};
 pub use story::{ClientLine, PageLine, Story, close};

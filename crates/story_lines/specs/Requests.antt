@@ -1,5 +1,5 @@
 -- The forms of a request. Each is an object with the key `q`, whose word says what is asked, and exactly the further keys of its kind, of which some may be missing.
-use Rattle.std.specs.Prelude.{ℕ, ◌^◌, ◌-◌, ◌&&◌, [], ◌∷◌, codes, bytes_eq, if◌then◌else◌, Option, Some, None, option_map}
+use Rattle.std.specs.Prelude.{ℕ, ◌^◌, ◌&&◌, [], ◌∷◌, codes, bytes_eq, if◌then◌else◌, Option, Some, None, option_map}
 use Rattle.serde_json.specs.Data.{Data}
 use Rattle.serde_json.specs.Find.{get}
 use Rattle.ax_base.specs.Characters.{Chars}

@@ -11,6 +11,7 @@ use serde_json::Value;
 /// The greatest place in a text.
 const MAX_OFFSET: u32 = 4_294_967_295;
 
+/// A marker by its text and its place in it.
 fn marker_by(id: &Value, offset: &Value) -> Option<Marker>
     ensures { result ≡ marker_by (view id.now) (view offset.now) }
 {
@@ -20,6 +21,7 @@ fn marker_by(id: &Value, offset: &Value) -> Option<Marker>
     })
 }
 
+/// The marker that values are.
 fn marker(values: &[Value]) -> Option<Marker>
     ensures { result ≡ marker (items_view values.now) }
 {

@@ -10,13 +10,16 @@ use ax_base::{NoMemory, Text};
 use serde_json::Value;
 use std::alloc::Global;
 
-/// The most key words of a search, the most bytes of its text, and the most objects that it tells.
+/// The most key words of a search.
 const MOST_KEYS: usize = 8;
 
+/// The most bytes of its text.
 const MOST_BYTES: usize = 4_096;
 
+/// The most objects that it may tell.
 const MOST_FOUND: u32 = 100;
 
+/// The kind of objects that a word names.
 fn search_key(word: &str) -> Option<SearchKey>
     ensures { result ≡ search_key word.now }
 {
@@ -40,12 +43,14 @@ fn search_key(word: &str) -> Option<SearchKey>
     }
 }
 
+/// The kind that one key word names.
 fn search_key_in(value: &Value) -> Option<SearchKey>
     ensures { result ≡ search_key_in (view value.now) }
 {
     search_key(value.as_str()?)
 }
 
+/// The kinds that key words name, in their order.
 fn search_keys(alloc: Global, values: &[Value]) -> Result<Option<SearchKeys>, NoMemory>
     ensures { IfOk result (λ keys. keys ≡ search_keys (items_view values.now)) }
 {

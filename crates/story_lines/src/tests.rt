@@ -1,4 +1,5 @@
 //! Lines with what they say.
+use crate::request_tests::shown_request;
 use crate::{Line, LineFail, read_line};
 use ax_base::{Attrs, ObjId, Rect, Runs, Text};
 use ax_dom::Edit;
@@ -112,8 +113,8 @@ fn shown_line(alloc: Global, line: &Line) -> Result<String, AllocError> {
         Line::Start => String::from_str(alloc, "start"),
         Line::Flush => String::from_str(alloc, "flush"),
         Line::Until(moment) => format!(in alloc; "until {}", moment.number()),
-        Line::Ask(_) => String::from_str(alloc, "ask"),
-        Line::Again(_) => String::from_str(alloc, "again"),
+        Line::Ask(asked) => format!(in alloc; "ask {}", shown_request(alloc, asked)?),
+        Line::Again(asked) => format!(in alloc; "again {}", shown_request(alloc, asked)?),
         Line::Hear => String::from_str(alloc, "hear"),
         Line::Await(moment) => format!(in alloc; "await {}", moment.number()),
         Line::Notices => String::from_str(alloc, "notices"),
@@ -122,7 +123,7 @@ fn shown_line(alloc: Global, line: &Line) -> Result<String, AllocError> {
 }
 
 /// What a line says, in a few words.
-fn said(alloc: Global, line: &str) -> Result<String, AllocError> {
+pub(crate) fn said(alloc: Global, line: &str) -> Result<String, AllocError> {
     match read_line(alloc, line) {
         Ok(None) => String::from_str(alloc, "blank"),
         Ok(Some(line)) => shown_line(alloc, &line),

@@ -1,0 +1,56 @@
+-- Which bytes are lines, and what the lines come to.
+use Rattle.std.proofs.Common.{◌≡◌, ℕ, ◌≤◌, ◌<◌, ◌^◌, List, length, Bool, true, false, Ok, Err, Result, refl, sym, ap, ◌∙◌, subst, arith}
+use Rattle.std.specs.Prelude.{nat_lt}
+use Rattle.std.specs.Str.{is_utf8, IsUtf8}
+use Rattle.std.proofs.lemmas.Str.{IsUtf8-from_is_utf8, is_utf8-from_IsUtf8}
+use Rattle.std.proofs.lemmas.Bool.Decides.{nat_tests}
+use Rattle.story_check.specs.declared.refusals.Refusal.{Refusal}
+use Rattle.story_check.specs.declared.refusals.Cause.TheVariants.{StoryTooLong, NotUtf8}
+use Rattle.story_check.specs.declared.refusals.AcceptFail.{AcceptFail}
+use Rattle.story_check.specs.declared.refusals.AcceptFail.TheVariants.{Refused, NoMemory}
+use Rattle.story_check.specs.Stories.{Script}
+use Rattle.story_check.specs.Acceptance.{Progress, pieces, whole, at_first, after_lines, at_end, ended, judged, judged_lines, AcceptFails, Accepts}
+
+not_true : (b : Bool) → (b ≡ true → ⊥) → b ≡ false
+not_true true h = absurd (h refl)
+not_true false h = refl
+
+fits : (n : ℕ) → n ≤ 2 ^ 24 → nat_lt (2 ^ 24) n ≡ false
+fits n h = grind (arith, nat_tests)
+
+too_long : (n : ℕ) → 2 ^ 24 < n → nat_lt (2 ^ 24) n ≡ true
+too_long n h = grind (arith, nat_tests)
+
+pub judged_long : (bytes : List ℕ) → 2 ^ 24 < length bytes → judged bytes ≡ Err (whole StoryTooLong)
+unfolding judged
+judged_long bytes h = rw (too_long (length bytes) h) refl
+
+pub judged_no_utf8 : (bytes : List ℕ) → length bytes ≤ 2 ^ 24 → (IsUtf8 bytes → ⊥) → judged bytes ≡ Err (whole NotUtf8)
+unfolding judged
+judged_no_utf8 bytes h bad = rw (fits (length bytes) h, not_true (is_utf8 bytes) (λ e. bad (IsUtf8-from_is_utf8 bytes e))) refl
+
+pub judged_text : (bytes : List ℕ) → length bytes ≤ 2 ^ 24 → IsUtf8 bytes → judged bytes ≡ judged_lines (pieces bytes)
+unfolding judged
+judged_text bytes h u = rw (fits (length bytes) h, is_utf8-from_IsUtf8 bytes u) refl
+
+-- an answer for the lines is one for the bytes
+pub accepts_bytes : (r : Result Script AcceptFail) (bytes text : List ℕ) → length bytes ≤ 2 ^ 24 → IsUtf8 bytes → text ≡ bytes
+    → Accepts r (judged_lines (pieces text)) → Accepts r (judged bytes)
+accepts_bytes r bytes text h u same e = subst (λ w. Accepts r w) (ap (λ (b : List ℕ). judged_lines (pieces b)) same ∙ sym (judged_text bytes h u)) e
+
+-- a failure of the lines is one of the story
+pub fails_lines : (fail : AcceptFail) (lines : List (List ℕ)) → AcceptFails fail (after_lines 1 at_first lines) → AcceptFails fail (judged_lines lines)
+fails_lines NoMemory lines e = tt
+fails_lines (Refused refusal) lines e = through (after_lines 1 at_first lines) e
+  where
+    through : (r : Result Progress Refusal) → r ≡ Err refusal → ended r ≡ Err refusal
+    through (Ok z) f = absurd (cc)
+    through (Err z) f = cc
+
+-- an answer at the end of the lines is one for the story
+pub accepts_end : (r : Result Script AcceptFail) (lines : List (List ℕ)) (first p : Progress) → first ≡ at_first → after_lines 1 first lines ≡ Ok p → Accepts r (at_end p) → Accepts r (judged_lines lines)
+accepts_end r lines first p begin same e = subst (λ w. Accepts r w) (sym (through (after_lines 1 at_first lines) (subst (λ (q : Progress). after_lines 1 q lines ≡ Ok p) begin same))) e
+  where
+    through : (w : Result Progress Refusal) → w ≡ Ok p → ended w ≡ at_end p
+    through (Ok z) f = cc
+    through (Err z) f = absurd (cc)

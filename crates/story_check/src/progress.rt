@@ -1,0 +1,376 @@
+//! The lines of a story that are read so far.
+ghost use Rattle.std.specs.Prelude.{◌≡◌, ◌<◌, ◌≤◌, map, length, IfOk, OnOk};
+ghost use Rattle.std.specs.List.{list_all};
+ghost use Rattle.std.specs.Option.{option_map};
+ghost use Rattle.story_lines.specs.declared.reading.Line.TheVariants.{Change as EditLine, Start as StartLine, Flush as FlushLine, Until as UntilLine, Await as AwaitLine, Turns as TurnsLine};
+ghost use Rattle.story_lines.specs.Lines.{line_of};
+ghost use Rattle.story_check.specs.declared.story.PageLine.TheVariants.{Flush, Until};
+ghost use Rattle.story_check.specs.Stories.{flushes, closed};
+ghost use Rattle.story_check.specs.Acceptance.{at_first, cause_of, edit_fail, turns_of, story_refusal, is_letter, is_turn_list, side, client_cause, line_cause, with_edit, with_page, with_client, with_await, line_effect, unless, after_line, await_refusal, at_end, Comes, Accepts};
+
+use crate::refusals::{refused, whole};
+use crate::{AcceptFail, Cause, ClientLine, PageLine, Refusal, Story, close, stuck};
+use ax_base::{Moment, NoMemory, Text, Who};
+use ax_dom::{Dom, Edit, EditCause};
+use std::alloc::Global;
+use std::marker::Model;
+use story_lines::{Line, LineFail, read_line};
+
+/// The most flush lines of a story.
+const MAX_FLUSHES: u32 = 65_536;
+
+/// The most lines of the client.
+const MAX_ASKS: usize = 16_384;
+
+/// The most characters of a turn list.
+const MAX_TURNS: usize = 1_048_576;
+
+/// The lines that are read so far, and the document after their edits.
+#[derive(Drop)]
+pub struct Reading {
+    dom: Dom,
+    started: bool,
+    base: Vec<Edit>,
+    page: Vec<PageLine>,
+    client: Vec<ClientLine>,
+    awaits: Vec<(u32, Moment)>,
+    turns: Option<Vec<Who>>,
+    count: u32,
+}
+
+impl Model for Reading {
+    ghost use Rattle.std.specs.Prelude.{◌≡◌, ◌≤◌, length};
+    ghost use Rattle.std.specs.Option.{option_map};
+    ghost use Rattle.story_check.specs.Stories.{flushes};
+    ghost use Rattle.story_check.specs.Acceptance.{Progress};
+
+    ghost Value = { Progress };
+
+    ghost view = { λ s. record { document = s.dom; started = s.started; base = s.base.items; page = s.page.items; client = s.client.items; awaits = s.awaits.items; turns = option_map (λ v. v.items) s.turns } };
+
+    ghost invariant = { λ s. (flushes s.page.items ≡ s.count) × (flushes s.page.items ≤ 65536) × (length s.client.items ≤ 16384) };
+}
+
+/// The cause of the same name, and `None` for want of memory.
+fn cause_of(cause: EditCause) -> Option<Cause>
+    ensures { result ≡ cause_of cause }
+{
+    match cause {
+        EditCause::NoNode => Some(Cause::NoNode),
+        EditCause::UsedId => Some(Cause::UsedId),
+        EditCause::BadPlace => Some(Cause::BadPlace),
+        EditCause::NotElement => Some(Cause::NotElement),
+        EditCause::NotText => Some(Cause::NotText),
+        EditCause::IntoItself => Some(Cause::IntoItself),
+        EditCause::RootFixed => Some(Cause::RootFixed),
+        EditCause::TooDeep => Some(Cause::TooDeep),
+        EditCause::TooMany => Some(Cause::TooMany),
+        EditCause::BadRuns => Some(Cause::BadRuns),
+        EditCause::TooLong => Some(Cause::TooLong),
+        EditCause::NoMemory => None,
+    }
+}
+
+/// How an edit fails on the line with this number.
+fn edit_fail(line: u32, cause: EditCause) -> AcceptFail
+    ensures { result ≡ edit_fail line cause }
+{
+    match cause_of(cause) {
+        Some(cause) => AcceptFail::Refused(Refusal { line, cause }),
+        None => AcceptFail::NoMemory,
+    }
+}
+
+/// Whether a turn list has nothing but the letters `P` and `C`, and not too many.
+fn is_turn_list(text: &Text) -> bool
+    ensures { result ≡ is_turn_list text.now }
+{
+    let letters = text.as_str().as_bytes();
+    are_letters(letters) && letters.len() <= MAX_TURNS
+}
+
+/// Whether all are the letters `P` and `C`.
+fn are_letters(letters: &[u8]) -> bool
+    ensures { result ≡ list_all is_letter letters.now }
+{
+    letters.iter().all(|b| *b == b'P' || *b == b'C')
+}
+
+/// The sides that these letters name.
+fn sides(alloc: Global, letters: &[u8]) -> Result<Vec<Who>, NoMemory>
+    ensures { IfOk result (λ turns. turns.items ≡ map side letters.now) }
+{
+    let mut turns = Vec::new(alloc);
+    for letter in letters {
+        turns.push(if *letter == b'P' {
+            Who::Page
+        } else {
+            Who::Client
+        })?;
+    }
+    Ok(turns)
+}
+
+/// The first await of a moment past all flushes.
+fn await_refusal(flushes: u32, awaits: &[(u32, Moment)]) -> Option<Refusal>
+    ensures { result ≡ await_refusal flushes awaits.now }
+{
+    for (line, wanted) in awaits {
+        if wanted.number() > flushes {
+            return Some(Refusal {
+                line: *line,
+                cause: Cause::AwaitTooFar,
+            });
+        }
+    }
+    None
+}
+
+/// The turns of a list, and none without one.
+fn turns_of(alloc: Global, turns: Option<Vec<Who>>) -> Vec<Who>
+    ensures { result.items ≡ turns_of (option_map (λ v. v.items) turns) }
+{
+    match turns {
+        Some(turns) => turns,
+        None => Vec::new(alloc),
+    }
+}
+
+/// The story of these parts, whose page gets its closing flush.
+#[tactic(auto, using(crate::proofs::Caps::flushes_closed))]
+fn story_of(
+    base: Vec<Edit>,
+    page: Vec<PageLine>,
+    client: Vec<ClientLine>,
+    turns: Vec<Who>,
+) -> Result<Story, NoMemory>
+    requires flushes { flushes page.items ≤ 65536 }
+    requires asks { length client.items ≤ 16384 }
+    ensures { IfOk result (λ s. s ≡ record { base = base.items; page = closed page.items; client = client.items; turns = turns.items }) }
+{
+    let page = close(page)?;
+    Ok(Story::new(base, page, client, turns).unwrap())
+}
+
+/// What is refused of a whole story.
+fn story_refusal(story: &Story, awaits: &[(u32, Moment)]) -> Option<Refusal>
+    ensures { result ≡ story_refusal story.now awaits.now }
+{
+    if let Some(refusal) = await_refusal(story.flushes(), awaits) {
+        return Some(refusal);
+    }
+    if stuck(story) {
+        return Some(Refusal {
+            line: 0,
+            cause: Cause::Stuck,
+        });
+    }
+    None
+}
+
+impl Reading {
+    /// Before the first line.
+    pub fn new(alloc: Global) -> Result<Reading, NoMemory>
+        ensures { IfOk result (λ reading. reading ≡ at_first) }
+    {
+        Ok(Reading {
+            dom: Dom::new(alloc)?,
+            started: false,
+            base: Vec::new(alloc),
+            page: Vec::new(alloc),
+            client: Vec::new(alloc),
+            awaits: Vec::new(alloc),
+            turns: None,
+            count: 0,
+        })
+    }
+
+    /// Reads the line with this number.
+    pub fn step(&mut self, alloc: Global, number: u32, line: &str) -> Result<(), AcceptFail>
+        ensures { Comes result self.new (after_line number self.old (line_of line.now)) }
+    {
+        match read_line(alloc, line) {
+            Ok(Some(said)) => self.take(alloc, number, said),
+            Ok(None) => Ok(()),
+            Err(LineFail::BadJson) => refused(number, Cause::BadJson),
+            Err(LineFail::BadLine) => refused(number, Cause::BadLine),
+            Err(LineFail::NoMemory) => Err(AcceptFail::NoMemory),
+        }
+    }
+
+    /// Takes what a line says, or refuses it.
+    fn take(&mut self, alloc: Global, number: u32, line: Line) -> Result<(), AcceptFail>
+        ensures { Comes result self.new (unless number (line_cause self.old line) (line_effect number self.old line)) }
+    {
+        match line {
+            Line::Change(edit) => self.change(alloc, number, edit),
+            Line::Start => self.start(number),
+            Line::Flush => self.flush(number),
+            Line::Until(moment) => self.until(number, moment),
+            Line::Ask(request) => self.client_line(number, ClientLine::Ask(request)),
+            Line::Again(request) => self.client_line(number, ClientLine::Again(request)),
+            Line::Hear => self.client_line(number, ClientLine::Hear),
+            Line::Await(moment) => self.wait(number, moment),
+            Line::Notices => self.client_line(number, ClientLine::Notices),
+            Line::Turns(text) => self.turn_list(alloc, number, &text),
+        }
+    }
+
+    /// Takes an edit.
+    fn change(&mut self, alloc: Global, number: u32, edit: Edit) -> Result<(), AcceptFail>
+        ensures { Comes result self.new (unless number (line_cause self.old (EditLine edit)) (line_effect number self.old (EditLine edit))) }
+    {
+        match self.dom.apply(alloc, &edit) {
+            Ok(()) => {
+                self.keep(edit)?;
+                Ok(())
+            }
+            Err(cause) => Err(edit_fail(number, cause)),
+        }
+    }
+
+    /// Adds a flush to the page.
+    #[tactic(auto, using(crate::proofs::Caps::flushes_with))]
+    fn add_flush(&mut self) -> Result<(), NoMemory>
+        requires { flushes self.old.page < 65536 }
+        ensures { OnOk result (self.new ≡ with_page Flush self.old) }
+    {
+        self.page.push(PageLine::Flush)?;
+        self.count += 1;
+        Ok(())
+    }
+
+    /// Adds a wait to the page.
+    #[tactic(auto, using(crate::proofs::Caps::flushes_with))]
+    fn add_until(&mut self, moment: Moment) -> Result<(), NoMemory>
+        ensures { OnOk result (self.new ≡ with_page (Until moment) self.old) }
+    {
+        self.page.push(PageLine::Until(moment))?;
+        Ok(())
+    }
+
+    /// Adds a line of the client.
+    fn add_client(&mut self, line: ClientLine) -> Result<(), NoMemory>
+        requires { length self.old.client < 16384 }
+        ensures { OnOk result (self.new ≡ with_client line self.old) }
+    {
+        self.client.push(line)?;
+        Ok(())
+    }
+
+    /// Keeps the number of a line that awaits a moment.
+    fn add_await(&mut self, number: u32, moment: Moment) -> Result<(), NoMemory>
+        ensures { OnOk result (self.new ≡ with_await number moment self.old) }
+    {
+        self.awaits.push((number, moment))?;
+        Ok(())
+    }
+
+    /// Keeps an edit: before the start as a base edit, after it as a line of the page.
+    #[tactic(auto, using(crate::proofs::Caps::flushes_with))]
+    fn keep(&mut self, edit: Edit) -> Result<(), NoMemory>
+        ensures { OnOk result (self.new ≡ with_edit edit self.old) }
+    {
+        if self.started {
+            self.page.push(PageLine::Change(edit))?;
+        } else {
+            self.base.push(edit)?;
+        }
+        Ok(())
+    }
+
+    /// Takes a start line.
+    fn start(&mut self, number: u32) -> Result<(), AcceptFail>
+        ensures { Comes result self.new (unless number (line_cause self.old StartLine) (line_effect number self.old StartLine)) }
+    {
+        if self.started {
+            return refused(number, Cause::SecondStart);
+        }
+        self.started = true;
+        Ok(())
+    }
+
+    /// Takes a flush line.
+    fn flush(&mut self, number: u32) -> Result<(), AcceptFail>
+        ensures { Comes result self.new (unless number (line_cause self.old FlushLine) (line_effect number self.old FlushLine)) }
+    {
+        if !self.started {
+            return refused(number, Cause::NoStart);
+        }
+        if self.count >= MAX_FLUSHES {
+            return refused(number, Cause::TooManyFlushes);
+        }
+        self.add_flush()?;
+        Ok(())
+    }
+
+    /// Takes a wait of the page.
+    fn until(&mut self, number: u32, moment: Moment) -> Result<(), AcceptFail>
+        ensures { Comes result self.new (unless number (line_cause self.old (UntilLine moment)) (line_effect number self.old (UntilLine moment))) }
+    {
+        if !self.started {
+            return refused(number, Cause::NoStart);
+        }
+        self.add_until(moment)?;
+        Ok(())
+    }
+
+    /// Takes a line of the client.
+    fn client_line(&mut self, number: u32, line: ClientLine) -> Result<(), AcceptFail>
+        ensures { Comes result self.new (unless number (client_cause self.old) (with_client line self.old)) }
+    {
+        if !self.started {
+            return refused(number, Cause::NoStart);
+        }
+        if self.client.len() >= MAX_ASKS {
+            return refused(number, Cause::TooManyAsks);
+        }
+        self.add_client(line)?;
+        Ok(())
+    }
+
+    /// Takes a wait of the client, and keeps its number.
+    fn wait(&mut self, number: u32, moment: Moment) -> Result<(), AcceptFail>
+        ensures { Comes result self.new (unless number (line_cause self.old (AwaitLine moment)) (line_effect number self.old (AwaitLine moment))) }
+    {
+        self.client_line(number, ClientLine::Await(moment))?;
+        self.add_await(number, moment)?;
+        Ok(())
+    }
+
+    /// Takes a turn list.
+    fn turn_list(&mut self, alloc: Global, number: u32, text: &Text) -> Result<(), AcceptFail>
+        ensures { Comes result self.new (unless number (line_cause self.old (TurnsLine text.now)) (line_effect number self.old (TurnsLine text.now))) }
+    {
+        if !self.started {
+            return refused(number, Cause::NoStart);
+        }
+        if self.turns.is_some() || !is_turn_list(text) {
+            return refused(number, Cause::BadTurns);
+        }
+        self.turns = Some(sides(alloc, text.as_str().as_bytes())?);
+        Ok(())
+    }
+
+    /// The story of all lines, or what is refused at their end.
+    pub fn finish(self, alloc: Global) -> Result<Story, AcceptFail>
+        ensures { Accepts result (at_end self) }
+    {
+        if !self.started {
+            return Err(whole(Cause::NoStart));
+        }
+        let Reading {
+            base,
+            page,
+            client,
+            awaits,
+            turns,
+            ..
+        } = self;
+        let story = story_of(base, page, client, turns_of(alloc, turns))?;
+        match story_refusal(&story, &awaits) {
+            None => Ok(story),
+            Some(refusal) => Err(AcceptFail::Refused(refusal)),
+        }
+    }
+}
