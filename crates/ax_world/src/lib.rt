@@ -8,6 +8,8 @@ ghost use Rattle.ax_world.specs.Legal.{IsLegalSoFar, IsLegal};
 ghost use Rattle.ax_world.specs.Machine.{start, after_turns, alternate, lines_done, IsOver, played};
 
 mod page;
+#[cfg(test)]
+mod tests;
 mod turns;
 mod world;
 
