@@ -1,5 +1,5 @@
 -- A node with the same parent, level and body in two trees has the same cell.
-use Rattle.std.proofs.Common.{◌≡◌, ◌⊎◌, inl, inr, ℕ, true, refl, sym, ap, ◌∙◌}
+use Rattle.std.proofs.Common.{◌≡◌, ◌⊎◌, inl, inr, ℕ, true, sym, ap, ◌∙◌}
 use Rattle.ax_base.specs.Document.{Document, has, root, parent, depth, body, IsChild}
 use Rattle.ax_base.specs.Trees.{IsTree}
 use Rattle.ax_base.proofs.Places.{parent-child, parent-root, depth-level}

@@ -1,5 +1,5 @@
 -- Another focused node.
-use Rattle.std.proofs.Common.{◌≡◌, ℕ, List, true, Option, Some, None, refl, sym, ap, ◌∙◌, subst}
+use Rattle.std.proofs.Common.{◌≡◌, ℕ, List, true, Option, Some, None, refl, sym, ap, ◌∙◌}
 use Rattle.ax_base.specs.Document.{Document, has}
 use Rattle.ax_base.proofs.Shapes.{HasShapeOf, parent_same, depth_same, tree_same}
 use Rattle.ax_dom.specs.declared.cell.Slot.{Slot}

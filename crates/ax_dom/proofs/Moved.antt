@@ -1,26 +1,23 @@
 -- A document with a node, and all below it, in another place is a tree.
-use Rattle.std.proofs.Common.{◌≡◌, ◌≢◌, ◌⊎◌, inl, inr, ℕ, suc, ◌+◌, ◌-◌, ◌≤◌, List, [], Bool, true, false, cond, Option, Some, None, is_some, Contains, refl, sym, ap, subst, ◌∙◌, arith, add-one}
+use Rattle.std.proofs.Common.{◌≡◌, ◌≢◌, ◌⊎◌, inl, inr, ℕ, suc, ◌+◌, ◌-◌, ◌≤◌, List, [], Bool, true, false, cond, Option, Some, None, is_some, Contains, refl, sym, ap, subst, ◌∙◌, arith}
 use Rattle.std.specs.Option.{option_map, option_map_or}
 use Rattle.std.specs.Ordering.{nat_cmp}
-use Rattle.std.specs.Map.{lookup, set_value}
 use Rattle.std.specs.BTreeMap.{is_at}
 use Rattle.std.specs.List.Sorted.{IsStrictlyIncreasing}
 use Rattle.std.proofs.lemmas.Bool.{false≢true}
 use Rattle.std.proofs.lemmas.Bool.Decides.{eqb_tells}
 use Rattle.std.proofs.lemmas.Map.{keys-set_value}
 use Rattle.std.proofs.lemmas.Map.Made.{lookup-map_values, keys_of-map_values}
-use Rattle.ax_base.specs.declared.body.Body.{Body}
 use Rattle.ax_base.specs.declared.body.Body.TheVariants.{Words}
-use Rattle.ax_base.specs.Document.{Document, Node, node, has, root, children, parent, depth, body, is_text, ids, lineage, IsChild}
+use Rattle.ax_base.specs.Document.{Document, Node, node, has, root, children, depth, body, is_text, ids, IsChild}
 use Rattle.ax_base.specs.Texts.{IsFitting}
 use Rattle.ax_base.specs.Trees.{IsTree, HasNoRepeats}
-use Rattle.ax_base.proofs.Lookups.{finds, finds_same, finds_tells, found_is, lookup-set_value_at}
-use Rattle.ax_base.proofs.Places.{has_children, parent-child, parent-root, depth-level}
-use Rattle.ax_dom.specs.declared.cell.Cell.{Cell}
+use Rattle.ax_base.proofs.Lookups.{finds, finds_same, found_is, lookup-set_value_at}
+use Rattle.ax_base.proofs.Places.{parent-child, depth-level}
 use Rattle.ax_dom.specs.Slots.{cell_of}
 use Rattle.ax_dom.specs.Places.{placed, without}
 use Rattle.ax_dom.specs.Subtrees.{subtree, is_within}
-use Rattle.ax_dom.specs.Changes.{with_children, unhung, unhung_from, moved}
+use Rattle.ax_dom.specs.Changes.{unhung_from, moved}
 use Rattle.ax_dom.proofs.Agreement.{cells_agree, parents_agree}
 use Rattle.ax_dom.proofs.Placed.{placed_cases, placed_keeps, placed_has, placed_once}
 use Rattle.ax_dom.proofs.Removed.{unhung_node, within_is, is_within_from, not_within, outside_from}

@@ -1,10 +1,8 @@
 -- A document without a node and all below it is a tree.
-use Rattle.std.proofs.Common.{◌≡◌, ◌≢◌, ◌⊎◌, inl, inr, ℕ, List, [], Bool, true, false, cond, not, Option, Some, None, is_some, Contains, refl, sym, ap, subst, ◌∙◌, arith}
-use Rattle.std.specs.Prelude.{nat_eq, filter}
-use Rattle.std.specs.List.{list_any}
+use Rattle.std.proofs.Common.{◌≡◌, ◌≢◌, inl, inr, ℕ, [], Bool, true, false, cond, not, Option, Some, None, is_some, Contains, refl, sym, ap, subst, ◌∙◌, arith}
+use Rattle.std.specs.Prelude.{filter}
 use Rattle.std.specs.Option.{option_map, option_map_or}
 use Rattle.std.specs.Ordering.{nat_cmp}
-use Rattle.std.specs.Map.{lookup}
 use Rattle.std.specs.BTreeMap.{is_at}
 use Rattle.std.specs.Cmp.{nat_eq_equiv}
 use Rattle.std.specs.List.Sorted.{IsStrictlyIncreasing}
@@ -18,8 +16,7 @@ use Rattle.ax_base.specs.declared.body.Body.TheVariants.{Words}
 use Rattle.ax_base.specs.Document.{Document, Node, node, has, root, children, body, is_text, ids, IsChild}
 use Rattle.ax_base.specs.Texts.{IsFitting}
 use Rattle.ax_base.specs.Trees.{IsTree, HasNoRepeats}
-use Rattle.ax_base.proofs.Lookups.{finds, found_is}
-use Rattle.ax_base.proofs.Places.{has_children}
+use Rattle.ax_base.proofs.Lookups.{found_is}
 use Rattle.ax_base.proofs.Repeats.{no_repeats-nil}
 use Rattle.ax_dom.specs.Slots.{cell_of}
 use Rattle.ax_dom.specs.Places.{without}

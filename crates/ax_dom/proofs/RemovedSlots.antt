@@ -1,24 +1,23 @@
 -- What the steps of a removal come to.
-use Rattle.std.proofs.Common.{◌≡◌, ◌≢◌, ℕ, List, [], Bool, true, false, cond, not, Option, Some, None, is_some, Contains, refl, sym, ap, subst, ◌∙◌, eqb}
+use Rattle.std.proofs.Common.{◌≡◌, ◌≢◌, ℕ, List, Bool, true, false, cond, not, Option, Some, None, is_some, Contains, refl, sym, ap, subst, ◌∙◌, eqb}
 use Rattle.std.specs.Prelude.{nat_eq, filter}
 use Rattle.std.specs.List.{list_any}
 use Rattle.std.specs.List.Sorted.{IsStrictlyIncreasing}
 use Rattle.std.specs.Option.{option_map, option_map_or}
 use Rattle.std.specs.Ordering.{nat_cmp}
-use Rattle.std.specs.Map.{lookup, keys_of}
+use Rattle.std.specs.Map.{keys_of}
 use Rattle.std.specs.BTreeMap.{is_at}
-use Rattle.std.proofs.lemmas.Bool.{false≢true, eqb-true, eq-eqb}
+use Rattle.std.proofs.lemmas.Bool.{false≢true, eq-eqb}
 use Rattle.std.proofs.lemmas.Map.Entries.{lookup-filter-keys}
-use Rattle.std.proofs.lemmas.Map.Made.{lookup-map_values, keys_of-map_values}
-use Rattle.ax_base.specs.Document.{Document, Node, node, has, root, children, parent, ids, IsChild}
+use Rattle.std.proofs.lemmas.Map.Made.{keys_of-map_values}
+use Rattle.ax_base.specs.Document.{Document, node, root, parent, ids, IsChild}
 use Rattle.ax_base.proofs.Lookups.{found_is}
 use Rattle.ax_base.proofs.Places.{parent-child}
-use Rattle.ax_dom.specs.declared.cell.Cell.{Cell}
 use Rattle.ax_dom.specs.declared.cell.Slot.{Slot}
 use Rattle.ax_dom.specs.Places.{without}
-use Rattle.ax_dom.specs.Slots.{cell_of, slot_at, node_of, nodes_of, document_of, IsKept}
+use Rattle.ax_dom.specs.Slots.{slot_at, node_of, nodes_of, document_of, IsKept}
 use Rattle.ax_dom.specs.Subtrees.{subtree, is_within}
-use Rattle.ax_dom.specs.Changes.{unhung, focus_without, removed}
+use Rattle.ax_dom.specs.Changes.{focus_without, removed}
 use Rattle.ax_dom.specs.Rewrites.{IsRewritten, taken_out}
 use Rattle.ax_dom.proofs.Kept.{has_is, node_there, children_found}
 use Rattle.ax_dom.proofs.SameEntries.{same_rising, keys-filter}

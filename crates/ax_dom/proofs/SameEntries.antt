@@ -1,5 +1,5 @@
 -- Entries with the same rising keys and the same look-ups are the same.
-use Rattle.std.proofs.Common.{◌≡◌, ℕ, List, [], ◌∷◌, map, Bool, true, false, cond, not, Option, Some, None, is_some, refl, sym, ap, subst, ◌∙◌}
+use Rattle.std.proofs.Common.{◌≡◌, ℕ, List, [], ◌∷◌, Bool, true, false, cond, not, Some, None, refl, sym, ap, subst, ◌∙◌}
 use Rattle.std.specs.Prelude.{filter}
 use Rattle.std.specs.declared.cmp.Ordering.TheVariants.{Less, Equal}
 use Rattle.std.specs.List.{AllByRecursion}
@@ -8,9 +8,8 @@ use Rattle.std.specs.Ordering.{nat_cmp}
 use Rattle.std.specs.Cmp.{nat_cmp_total, tied_itself}
 use Rattle.std.specs.Map.{lookup, keys_of, remove_entry}
 use Rattle.std.specs.BTreeMap.{is_at}
-use Rattle.std.proofs.lemmas.Bool.{false≢true}
 use Rattle.std.proofs.lemmas.Map.Keys.{sorted_from_strictly_increasing}
-use Rattle.ax_base.proofs.Lookups.{finds, finds_is, finds_same, found_is}
+use Rattle.ax_base.proofs.Lookups.{finds, finds_same, found_is}
 
 -- a key below all others is not found among them
 none_above : {X : Type 0} (q : ℕ) (es : List (ℕ × X)) → AllByRecursion (λ k. nat_cmp q k ≡ Less) (keys_of es) → lookup (is_at (nat_cmp q)) es ≡ None

@@ -1,12 +1,11 @@
 -- The nodes at and below a node of a tree.
-use Rattle.std.proofs.Common.{◌≡◌, ◌≢◌, ◌⊎◌, inl, inr, ℕ, zero, suc, ◌-◌, ◌<◌, ◌≤◌, List, [], ◌∷◌, map, Bool, true, false, Option, Some, None, Contains, refl, sym, ap, subst, ◌∙◌, arith}
-use Rattle.std.specs.Prelude.{nat_eq}
-use Rattle.std.specs.List.{list_any, flat_map}
+use Rattle.std.proofs.Common.{◌≡◌, ◌≢◌, ◌⊎◌, inl, inr, ℕ, zero, suc, ◌-◌, ◌<◌, ◌≤◌, List, ◌∷◌, true, Contains, sym, ap, subst, ◌∙◌, arith}
+use Rattle.std.specs.List.{flat_map}
 use Rattle.std.proofs.lemmas.List.Folds.{flat_map-map}
-use Rattle.ax_base.specs.Document.{Document, Spot, spot, has, root, children, depth, lineage, lineage_within, preorder, IsChild}
+use Rattle.ax_base.specs.Document.{Document, Spot, spot, has, root, children, lineage, lineage_within, preorder, IsChild}
 use Rattle.ax_base.specs.Trees.{IsTree, HasNoRepeats}
 use Rattle.ax_base.proofs.Below.{from_below_unfolds}
-use Rattle.ax_base.proofs.Places.{has_children, depth-level, lineage-child}
+use Rattle.ax_base.proofs.Places.{lineage-child}
 use Rattle.ax_base.proofs.Membership.{Contains-head, Contains-tail}
 use Rattle.ax_base.proofs.Repeats.{no_repeats-cons}
 use Rattle.ax_dom.specs.Subtrees.{subtree}

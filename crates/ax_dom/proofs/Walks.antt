@@ -1,5 +1,5 @@
 -- What the walks up and down a tree take.
-use Rattle.std.proofs.Common.{◌≡◌, ◌≢◌, ℕ, zero, suc, ◌+◌, ◌-◌, ◌<◌, ◌≤◌, ◌||◌, ◌&&◌, List, [], ◌∷◌, ◌++◌, map, length, take, get_or, Bool, true, false, cond, not, Option, Some, None, Contains, refl, sym, ap, subst, ◌∙◌, eqb, arith, append_assoc, append-nil}
+use Rattle.std.proofs.Common.{◌≡◌, ◌≢◌, ℕ, zero, suc, ◌+◌, ◌-◌, ◌<◌, ◌≤◌, ◌||◌, ◌&&◌, List, [], ◌∷◌, ◌++◌, map, length, take, get_or, Bool, true, false, cond, not, Some, None, Contains, refl, sym, ap, subst, ◌∙◌, eqb, arith, append_assoc, append-nil}
 use Rattle.std.specs.Prelude.{nat_eq, filter}
 use Rattle.std.specs.List.{list_any, flat_map}
 use Rattle.std.specs.List.Sorted.{IsStrictlyIncreasing, IsStrictlySortedBy}
@@ -15,7 +15,7 @@ use Rattle.std.proofs.lemmas.List.Folds.{list_any-append, list_any_more}
 use Rattle.std.proofs.lemmas.List.Kept.{IsStrictlySortedBy-filter}
 use Rattle.std.proofs.lemmas.Map.Keys.{sorted_from_strictly_increasing}
 use Rattle.std.proofs.lemmas.Map.Views.{Contains-from_any}
-use Rattle.ax_base.specs.Document.{Document, Spot, spot, preorder, has, children, parent, depth, lineage, lineage_within, ids, IsChild}
+use Rattle.ax_base.specs.Document.{Document, Spot, spot, preorder, children, parent, depth, lineage, lineage_within, ids, IsChild}
 use Rattle.ax_base.specs.Recursion.{from_below}
 use Rattle.ax_base.specs.Trees.{IsTree}
 use Rattle.ax_base.proofs.Lookups.{finds, finds_is}

@@ -1,5 +1,5 @@
 -- Slots that are rewritten in their places.
-use Rattle.std.specs.Prelude.{◌≡◌, ℕ, Bool, false, nat_eq, ◌==◌, ◌+◌, ◌-◌, min, if◌then◌else◌, List, Option, Some}
+use Rattle.std.specs.Prelude.{◌≡◌, ℕ, false, nat_eq, ◌==◌, ◌+◌, ◌-◌, min, if◌then◌else◌, List, Option, Some}
 use Rattle.std.specs.List.{list_any}
 use Rattle.std.specs.Option.{option_map, option_map_or}
 use Rattle.std.specs.Map.{keys_of}

@@ -1,4 +1,4 @@
-use Rattle.std.proofs.Common.{◌≡◌, ◌+◌, ◌-◌, nat_lt, sym, ap, ◌∙◌, arith, true, false}
+use Rattle.std.proofs.Common.{◌+◌, ◌-◌, nat_lt, sym, arith}
 use Rattle.std.proofs.lemmas.Bool.{lt-ltb, le-ltb}
 use Rattle.ax_base.specs.Document.{IsChild, depth}
 use Rattle.ax_dom.proofs.Walks.{child_of, descends, any_here, any_below, none_anywhere}

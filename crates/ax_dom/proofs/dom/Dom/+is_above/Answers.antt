@@ -1,4 +1,4 @@
-use Rattle.std.proofs.Common.{◌≡◌, ◌≢◌, sym, ◌∙◌, arith}
+use Rattle.std.proofs.Common.{◌≢◌, sym, ◌∙◌, arith}
 use Rattle.ax_dom.proofs.Walks.{ascends, above_here, above_parent, above_none}
 use Rattle.ax_dom.proofs.dom.Dom.+is_above.Goals as goal
 

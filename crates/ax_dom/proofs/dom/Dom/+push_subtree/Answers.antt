@@ -1,4 +1,4 @@
-use Rattle.std.proofs.Common.{◌≡◌, ◌∙◌, arith}
+use Rattle.std.proofs.Common.{arith}
 use Rattle.ax_base.specs.Document.{IsChild}
 use Rattle.ax_dom.proofs.Walks.{child_of, descends, subtree_added}
 use Rattle.ax_dom.proofs.dom.Dom.+push_subtree.Goals as goal

@@ -1,4 +1,4 @@
-use Rattle.std.proofs.Common.{◌≡◌, ◌∙◌, ◌++◌, List, ℕ, sym, ap}
+use Rattle.std.proofs.Common.{◌∙◌, ◌++◌, sym, ap}
 use Rattle.ax_dom.specs.Subtrees.{subtree}
 use Rattle.ax_dom.specs.Changes.{focus_outside}
 use Rattle.ax_dom.proofs.RemovedSlots.{rising_out, document_removed, kept_removed}
