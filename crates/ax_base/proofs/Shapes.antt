@@ -1,5 +1,5 @@
 -- Documents of one shape: the same ids, with the same children.
-use Rattle.std.proofs.Common.{◌≡◌, ℕ, zero, suc, List, [], ◌∷◌, length, Bool, true, Option, Contains, refl, sym, subst, ap, ◌∙◌}
+use Rattle.std.proofs.Common.{◌≡◌, ℕ, zero, suc, [], ◌∷◌, length, true, Some, Contains, refl, sym, subst, ap, ◌∙◌}
 use Rattle.std.specs.Prelude.{find, nat_eq}
 use Rattle.std.specs.List.{list_any}
 use Rattle.std.specs.List.Sorted.{IsStrictlyIncreasing}
@@ -39,8 +39,8 @@ module _ (d e : Document) (shape : HasShapeOf d e) where
   child_is : (n c : ℕ) → IsChild d n c → IsChild e n c
   child_is n c child = subst (λ xs. Contains xs c) (sym (shape.children_same n)) child
 
-  pub tree_same : ((n : ℕ) → IsFitting (body e n)) → IsTree d → IsTree e
-  tree_same fit t = record {
+  pub tree_same : ((n : ℕ) → IsFitting (body e n)) → ((n : ℕ) → e.focus ≡ Some n → has e n ≡ true) → IsTree d → IsTree e
+  tree_same fit focused t = record {
     level = t.level;
     has_root = shape.has_same root ∙ t.has_root;
     root_level = t.root_level;
@@ -54,4 +54,5 @@ module _ (d e : Document) (shape : HasShapeOf d e) where
     bare = λ n text. shape.children_same n ∙ t.bare n (sym (shape.text_same n) ∙ text);
     rising = subst IsStrictlyIncreasing (sym shape.ids_same) t.rising;
     fits = fit;
+    focused = focused;
   }

@@ -1,5 +1,5 @@
 -- Documents that are trees.
-use Rattle.std.specs.Prelude.{◌≡◌, ◌≢◌, ◌<◌, ◌≤◌, ℕ, suc, true, false, List, [], length, get_or}
+use Rattle.std.specs.Prelude.{◌≡◌, ◌≢◌, ◌<◌, ◌≤◌, ℕ, suc, true, false, Some, List, [], length, get_or}
 use Rattle.std.specs.List.Sorted.{IsStrictlyIncreasing}
 use Rattle.ax_base.specs.Document.{Document, root, has, ids, body, is_text, children, IsChild}
 use Rattle.ax_base.specs.Texts.{IsFitting}
@@ -8,7 +8,7 @@ use Rattle.ax_base.specs.Texts.{IsFitting}
 abbrev pub HasNoRepeats : List ℕ → Type 0
 HasNoRepeats xs = (i j : ℕ) → i < length xs → j < length xs → get_or xs i 0 ≡ get_or xs j 0 → i ≡ j
 
--- Each node hangs on the root, in one place, at most 64 levels below it; texts have no children; ids rise.
+-- Each node hangs on the root, in one place, at most 64 levels below it; texts have no children and are not too long; ids rise; the focused node is there.
 pub record IsTree (d : Document) : Type 0 where
   -- how far a node is below the root
   pub level : ℕ → ℕ
@@ -26,3 +26,5 @@ pub record IsTree (d : Document) : Type 0 where
   pub rising : IsStrictlyIncreasing (ids d)
   -- no text is too long
   pub fits : (n : ℕ) → IsFitting (body d n)
+  -- the focused node is there
+  pub focused : (n : ℕ) → d.focus ≡ Some n → has d n ≡ true

@@ -118,7 +118,9 @@ impl Attrs {
         ensures place { result ≡ position (λ a. bytes_eq a.name name.now) self.now }
         ensures distinct { HasDistinctNames self.now }
     {
-        self.items.iter().position(|attr| attr.name.is(name.as_str()))
+        self.items
+            .iter()
+            .position(|attr| attr.name.is(name.as_str()))
     }
 
     /// Equal attributes.

@@ -1,5 +1,5 @@
 //! Small list types, which clauses see as lists.
-ghost use Rattle.std.specs.Prelude.{◌≡◌, ◌<◌, ◌≤◌, length, IfOk, [], ◌++◌, ◌∷◌, OnOk, OnErr};
+ghost use Rattle.std.specs.Prelude.{◌≡◌, ◌==◌, ◌<◌, ◌≤◌, not, filter, length, IfOk, [], ◌++◌, ◌∷◌, OnOk, OnErr};
 ghost use Rattle.std.specs.List.{insert, remove};
 
 use crate::{NoMemory, ObjId, Run};
@@ -124,6 +124,14 @@ impl Ids {
     {
         self.items.insert(index, id)?;
         Ok(())
+    }
+
+    /// Takes an id out, wherever it stands.
+    pub fn take_out(&mut self, id: ObjId)
+        ensures { self.new ≡ filter (λ x. not (x == id)) self.old }
+    {
+        let gone = id.number();
+        self.items.retain(|x| x.number() != gone);
     }
 
     /// Takes out the id at a place.

@@ -15,7 +15,7 @@ use Rattle.ax_base.proofs.Shapes.{HasShapeOf, parent_same, depth_same, tree_same
 use Rattle.ax_dom.specs.declared.cell.Cell.{Cell}
 use Rattle.ax_dom.specs.declared.cell.Slot.{Slot}
 use Rattle.ax_dom.specs.declared.edit.Edit.{Edit}
-use Rattle.ax_dom.specs.declared.edit.Edit.TheVariants.{InsertElement, InsertText, Chars, Set}
+use Rattle.ax_dom.specs.declared.edit.Edit.TheVariants.{InsertElement, InsertText, Remove, Move, Chars, Set, Unset, SetRuns, Frame, Focus}
 use Rattle.ax_dom.specs.Slots.{cell_of, slot_at, nodes_of, document_of, IsKept}
 use Rattle.ax_dom.specs.Bodies.{body_after, slot_after}
 use Rattle.ax_dom.specs.Changes.{with_body}
@@ -28,19 +28,37 @@ use Rattle.ax_dom.proofs.Entries.{nodes_of-set_value, the_slot}
 pub kind_stays : (e : Edit) (b : Body) → is_text (body_after e b) ≡ is_text b
 kind_stays (InsertElement id into before tag attrs) b = refl
 kind_stays (InsertText id into before chars) b = refl
+kind_stays (Remove id) b = refl
+kind_stays (Move id into before) b = refl
 kind_stays (Chars id chars) (Element tag attrs frame) = refl
 kind_stays (Chars id chars) (Words old runs) = refl
 kind_stays (Set id name value) (Element tag attrs frame) = refl
 kind_stays (Set id name value) (Words chars runs) = refl
+kind_stays (Unset id name) (Element tag attrs frame) = refl
+kind_stays (Unset id name) (Words chars runs) = refl
+kind_stays (SetRuns id new) (Element tag attrs frame) = refl
+kind_stays (SetRuns id new) (Words chars runs) = refl
+kind_stays (Frame id rect) (Element tag attrs frame) = refl
+kind_stays (Frame id rect) (Words chars runs) = refl
+kind_stays (Focus id) b = refl
 
 -- an edit that is not too long keeps a node fitting
 pub body_fits : (e : Edit) (b : Body) → is_too_long e ≡ false → IsFitting b → IsFitting (body_after e b)
 body_fits (InsertElement id into before tag attrs) b short fit = fit
 body_fits (InsertText id into before chars) b short fit = fit
+body_fits (Remove id) b short fit = fit
+body_fits (Move id into before) b short fit = fit
 body_fits (Chars id chars) (Element tag attrs frame) short fit = tt
 body_fits (Chars id chars) (Words old runs) short fit = text_fits chars short
 body_fits (Set id name value) (Element tag attrs frame) short fit = tt
 body_fits (Set id name value) (Words chars runs) short fit = fit
+body_fits (Unset id name) (Element tag attrs frame) short fit = tt
+body_fits (Unset id name) (Words chars runs) short fit = fit
+body_fits (SetRuns id new) (Element tag attrs frame) short fit = tt
+body_fits (SetRuns id new) (Words chars runs) short fit = fit
+body_fits (Frame id rect) (Element tag attrs frame) short fit = tt
+body_fits (Frame id rect) (Words chars runs) short fit = fit
+body_fits (Focus id) b short fit = fit
 
 -- another body of the same kind keeps the shape
 module _ (d : Document) (n : ℕ) (b : Body) (there : has d n ≡ true) (kind : is_text b ≡ is_text (body d n)) where
@@ -134,7 +152,7 @@ module _ (es : List (ℕ × Slot)) (focus : Option ℕ) (used : List ℕ) (kept 
 
   kept_is : IsKept (document_of fs focus used) fs
   kept_is = subst (λ x. IsKept x fs) (sym document_is) (record {
-    tree = tree_same d after (shape_amended d n b there (kind_stays edit (body d n))) fits_are kept.tree;
+    tree = tree_same d after (shape_amended d n b there (kind_stays edit (body d n))) fits_are (λ q some. (shape_amended d n b there (kind_stays edit (body d n))).has_same q ∙ kept.tree.focused q some) kept.tree;
     cells = cells_are;
     marked = λ q has_q top. kept.marked q (sym ((shape_amended d n b there (kind_stays edit (body d n))).has_same q) ∙ has_q) top;
   })

@@ -2,7 +2,6 @@
 use Rattle.std.proofs.Common.{◌≡◌, ℕ, List, [], ◌∷◌, Bool, true, false, cond, Some, None, is_some, Contains, refl, sym, ap, subst, ◌∙◌, arith}
 use Rattle.std.specs.Option.{option_map_or}
 use Rattle.std.specs.Ordering.{nat_cmp}
-use Rattle.std.specs.Str.{chars}
 use Rattle.std.specs.BTreeMap.{insert_entry}
 use Rattle.std.proofs.lemmas.Bool.{false≢true}
 use Rattle.std.proofs.lemmas.Option.{same_Some}
@@ -17,6 +16,7 @@ use Rattle.ax_base.specs.Trees.{HasNoRepeats}
 use Rattle.ax_dom.specs.declared.cell.Cell.{Cell}
 use Rattle.ax_dom.specs.declared.cell.Slot.{Slot}
 use Rattle.ax_dom.specs.Slots.{cell_of, document_of, IsKept}
+use Rattle.ax_dom.proofs.Fitting.{nothing_fits}
 
 module _ (b : Body) (element : is_text b ≡ false) where
   abbrev cell : Cell
@@ -49,10 +49,6 @@ module _ (b : Body) (element : is_text b ≡ false) where
   element_fits (Element tag attrs frame) is = tt
   element_fits (Words chars runs) is = absurd (false≢true (sym is))
 
-  nothing_fits : IsFitting (Words [] [])
-  unfolding chars
-  nothing_fits = omega arith
-
   fits : (n : ℕ) → IsFitting (body d n)
   fits n = go (finds n 1)
     where
@@ -75,6 +71,7 @@ module _ (b : Body) (element : is_text b ≡ false) where
     bare = λ n text. nothing_below n;
     rising = λ k low. absurd (omega arith);
     fits = fits;
+    focused = λ n some. cc;
   }
 
   root_kept : IsKept d es

@@ -178,6 +178,7 @@ module _ (d : Document) (t : IsTree d) (id into : ℕ) (before : Option ℕ) (b 
     bare = bare_after;
     rising = rising_after;
     fits = fits_after;
+    focused = λ n some. has_kept n (t.focused n some);
   }
 
   parent_kept : (q : ℕ) → has d q ≡ true → parent e q ≡ parent d q

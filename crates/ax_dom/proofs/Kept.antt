@@ -2,6 +2,7 @@
 use Rattle.std.proofs.Common.{◌≡◌, ℕ, List, [], ◌∷◌, Bool, true, false, cond, Option, Some, None, is_some, refl, sym, ap, ◌∙◌}
 use Rattle.std.specs.Prelude.{find, nat_eq, length}
 use Rattle.std.specs.List.{list_any}
+use Rattle.std.specs.Str.{chars}
 use Rattle.std.specs.Option.{option_map, option_map_or}
 use Rattle.std.specs.Ordering.{nat_cmp}
 use Rattle.std.specs.BTreeMap.{is_at}
@@ -14,7 +15,11 @@ use Rattle.ax_base.specs.Trees.{IsTree}
 use Rattle.ax_base.proofs.Places.{parent-child, parent-unknown}
 use Rattle.ax_dom.specs.declared.cell.Slot.{Slot}
 use Rattle.ax_dom.specs.Slots.{cell_of, cell_at, slot_at, node_of, document_of, IsKept}
-use Rattle.ax_dom.specs.Refusals.{is_place}
+use Rattle.ax_dom.specs.Refusals.{is_place, length_of}
+
+no_characters : length_of (Words [] []) ≡ 0
+unfolding chars
+no_characters = refl
 
 module _ (es : List (ℕ × Slot)) (focus : Option ℕ) (used : List ℕ) where
   abbrev here : Document
@@ -52,6 +57,9 @@ module _ (es : List (ℕ × Slot)) (focus : Option ℕ) (used : List ℕ) where
     pub body_missing : None ≡ slot_at es n → true ≡ is_text (body d n)
     body_missing none = ap (λ o. is_text (option_map_or (λ (e : Node). e.body) o (Words [] []))) (sym (node_missing n none)) ∙ ap (λ d. is_text (body d n)) view
 
+    pub length_missing : None ≡ slot_at es n → 0 ≡ length_of (body d n)
+    length_missing none = sym no_characters ∙ ap (λ o. length_of (option_map_or (λ (e : Node). e.body) o (Words [] []))) (sym (node_missing n none)) ∙ ap (λ d. length_of (body d n)) view
+
     parent_none : IsTree here → None ≡ slot_at es n → parent here n ≡ None
     parent_none tree none = parent-unknown here tree n (ap is_some (node_missing n none))
 
@@ -65,7 +73,7 @@ module _ (es : List (ℕ × Slot)) (focus : Option ℕ) (used : List ℕ) where
     not_missing none there = false≢true (ap is_some none ∙ has_is ∙ there)
 
 -- what is found passes the test
-found_passes : (test : ℕ → Bool) (xs : List ℕ) (p : ℕ) → find test xs ≡ Some p → test p ≡ true
+pub found_passes : (test : ℕ → Bool) (xs : List ℕ) (p : ℕ) → find test xs ≡ Some p → test p ≡ true
 found_passes test [] p found = cc
 found_passes test (x ∷ xs) p found = go (test x) refl (found_passes test xs p) found
   where

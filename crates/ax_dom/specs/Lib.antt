@@ -1,6 +1,9 @@
 pub mod Places
 pub mod Used
 pub mod Slots
+pub mod Subtrees
+pub mod Rewrites
 pub mod Bodies
+pub mod Runs
 pub mod Changes
 pub mod Refusals

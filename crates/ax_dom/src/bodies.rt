@@ -1,9 +1,9 @@
 //! What an edit makes of the one node that it changes.
 ghost use Rattle.std.specs.Prelude.{◌≡◌, OnOk, OnErr};
-ghost use Rattle.ax_dom.specs.Bodies.{with_chars, with_attr, body_after};
+ghost use Rattle.ax_dom.specs.Bodies.{with_chars, with_attr, without_attr, with_runs, with_frame, body_after};
 
 use crate::edit::Edit;
-use ax_base::{Body, NoMemory, Runs, Text};
+use ax_base::{Body, NoMemory, Rect, Runs, Text};
 use std::alloc::Global;
 
 /// Does an edit that changes a node alone. At an error nothing changes.
@@ -14,6 +14,15 @@ pub fn amend_body(alloc: Global, body: &mut Body, e: &Edit) -> Result<(), NoMemo
     match e {
         Edit::Chars { chars, .. } => set_chars(alloc, body, chars),
         Edit::Set { name, value, .. } => set_attr(alloc, body, name, value),
+        Edit::Unset { name, .. } => {
+            unset_attr(body, name);
+            Ok(())
+        }
+        Edit::SetRuns { runs, .. } => set_runs(alloc, body, runs),
+        Edit::Frame { rect, .. } => {
+            set_frame(body, *rect);
+            Ok(())
+        }
         _ => Ok(()),
     }
 }
@@ -40,4 +49,33 @@ fn set_attr(alloc: Global, body: &mut Body, name: &Text, value: &Text) -> Result
         attrs.set(alloc, name, value)?;
     }
     Ok(())
+}
+
+/// Takes an attribute of an element away.
+fn unset_attr(body: &mut Body, name: &Text)
+    ensures { body.new ≡ without_attr name.now body.old }
+{
+    if let Body::Element { attrs, .. } = body {
+        attrs.unset(name);
+    }
+}
+
+/// Gives a text other runs. At an error nothing changes.
+fn set_runs(alloc: Global, body: &mut Body, new: &Runs) -> Result<(), NoMemory>
+    ensures ok { OnOk result (body.new ≡ with_runs new.now body.old) }
+    ensures err { OnErr result (body.new ≡ body.old) }
+{
+    if let Body::Words { runs, .. } = body {
+        *runs = new.copy(alloc)?;
+    }
+    Ok(())
+}
+
+/// Gives an element another frame.
+fn set_frame(body: &mut Body, rect: Rect)
+    ensures { body.new ≡ with_frame rect body.old }
+{
+    if let Body::Element { frame, .. } = body {
+        *frame = rect;
+    }
 }

@@ -1,6 +1,7 @@
 //! The document.
 mod changes;
 mod refusals;
+mod subtrees;
 
 ghost use Rattle.std.specs.Prelude.{◌≡◌, ◌+◌, IfOk, OnOk, OnErr, IfErr, if◌then◌else◌, Some, None, option_copied};
 ghost use Rattle.ax_base.specs.Document.{children, parent};
@@ -83,10 +84,7 @@ impl Dom {
         ensures counted { steps.new ≡ steps.old + 1 }
     {
         steps.tick();
-        match self.slots.get(id) {
-            Some(slot) => slot.children.as_slice(),
-            None => &[],
-        }
+        self.children_of(id)
     }
 
     /// The parent of a node, or `None` exactly of the root and of an unknown id.

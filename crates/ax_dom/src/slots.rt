@@ -1,13 +1,16 @@
 //! The nodes of the document by their ids.
-ghost use Rattle.std.specs.Prelude.{◌≡◌, ◌≤◌, ℕ, length, OnOk, OnErr, [], Some, None, IsSome, is_some, option_copied};
-ghost use Rattle.std.specs.List.{insert};
+ghost use Rattle.std.specs.Prelude.{◌≡◌, ◌≤◌, ℕ, length, OnOk, OnErr, [], Some, None, IsSome, is_some, option_copied, ◌<◌, not, nat_eq, filter, IfOk};
+ghost use Rattle.std.specs.List.{insert, list_any};
+ghost use Rattle.std.specs.List.Sorted.{IsStrictlyIncreasing};
 ghost use Rattle.std.specs.Ordering.{nat_cmp};
 ghost use Rattle.std.specs.BTreeMap.{is_at, insert_entry};
-ghost use Rattle.std.specs.Map.{remove_entry, set_value};
+ghost use Rattle.std.specs.Map.{keys_of, remove_entry, set_value};
+ghost use Rattle.ax_base.specs.Trees.{HasNoRepeats};
 ghost use Rattle.ax_dom.specs.declared.cell.Slot.{Slot};
 ghost use Rattle.ax_dom.specs.Slots.{slot_at};
 ghost use Rattle.ax_dom.specs.Bodies.{slot_after};
-ghost use Rattle.ax_dom.specs.Places.{placed, placed_before};
+ghost use Rattle.ax_dom.specs.Places.{placed, placed_before, without};
+ghost use Rattle.ax_dom.specs.Rewrites.{IsRewritten, taken_out, with_list, with_parent, lifted_at, lifted_among};
 
 use crate::bodies::amend_body;
 use crate::cell::Slot;
@@ -118,6 +121,67 @@ impl Slots {
         }
         Ok(())
     }
+
+    /// Takes an id out of the children of its parent, if it has one.
+    pub fn take_out(&mut self, from: &Option<ObjId>, id: ObjId)
+        ensures { IsRewritten self.old self.new (taken_out from.now id) }
+    {
+        if let Some(parent) = from {
+            if let Some(slot) = self.map.get_mut(&parent.0) {
+                slot.children.take_out(id);
+            }
+        }
+    }
+
+    /// Gives a node other children.
+    pub fn set_children(&mut self, id: ObjId, list: Ids)
+        ensures { IsRewritten self.old self.new (with_list id list) }
+    {
+        if let Some(slot) = self.map.get_mut(&id.0) {
+            slot.children = list;
+        }
+    }
+
+    /// Gives a node another parent.
+    pub fn set_parent(&mut self, id: ObjId, parent: ObjId)
+        ensures { IsRewritten self.old self.new (with_parent id parent) }
+    {
+        if let Some(slot) = self.map.get_mut(&id.0) {
+            slot.cell.parent = Some(parent);
+        }
+    }
+
+    /// Makes each of some nodes as deep below the depth `base` as it was below the depth `top`.
+    pub fn lift(&mut self, ids: &[ObjId], base: u32, top: u32)
+        requires once { HasNoRepeats ids.now }
+        requires low { base < 1000 }
+        ensures { IsRewritten self.old self.new (lifted_among ids.now base top) }
+    {
+        for id in ids {
+            self.lift_one(*id, base, top);
+        }
+    }
+
+    /// Makes a node as deep below the depth `base` as it was below the depth `top`.
+    fn lift_one(&mut self, id: ObjId, base: u32, top: u32)
+        requires { base < 1000 }
+        ensures { IsRewritten self.old self.new (lifted_at id base top) }
+    {
+        if let Some(slot) = self.map.get_mut(&id.0) {
+            let below = u32::from(slot.cell.depth).saturating_sub(top).min(64);
+            slot.cell.depth = (base + below).min(64) as u8;
+        }
+    }
+
+    /// Takes some nodes away.
+    pub fn remove_all(&mut self, ids: &[ObjId])
+        requires { IsStrictlyIncreasing (keys_of self.old) }
+        ensures { self.new ≡ filter (λ e. not (list_any (nat_eq e.0) ids.now)) self.old }
+    {
+        for id in ids {
+            self.remove(*id);
+        }
+    }
 }
 
 /// Puts an id before another of a list, or at the end. At an error nothing changes.
@@ -145,4 +209,31 @@ fn place_of(ids: &[ObjId], b: ObjId) -> usize
         }
     }
     ids.len()
+}
+
+/// Some ids with one of them before another, or at the end, and nowhere else.
+pub fn placed_anew(
+    alloc: Global,
+    ids: &[ObjId],
+    before: &Option<ObjId>,
+    id: ObjId,
+) -> Result<Ids, NoMemory>
+    ensures { IfOk result (λ list. list ≡ placed before.now id (without id ids.now)) }
+{
+    let mut list = others(alloc, ids, id)?;
+    place_among(&mut list, before, id)?;
+    Ok(list)
+}
+
+/// Some ids without one.
+fn others(alloc: Global, ids: &[ObjId], id: ObjId) -> Result<Ids, NoMemory>
+    ensures { IfOk result (λ list. list ≡ without id ids.now) }
+{
+    let mut list = Ids::new(alloc);
+    for x in ids {
+        if x.0 != id.0 {
+            list.push(*x)?;
+        }
+    }
+    Ok(list)
 }

@@ -2,7 +2,7 @@
 ghost use Rattle.std.specs.Prelude.{◌≡◌};
 
 use crate::{Body, Cell, Dom, Edit, EditCause};
-use ax_base::{Attrs, ObjId, Steps, Text};
+use ax_base::{Attrs, ObjId, Rect, Run, Runs, Steps, Text};
 use std::alloc::Global;
 use std::marker::Brand;
 use std::process::Abort;
@@ -10,7 +10,7 @@ use std::sync::ledger::{Blank, Ledger};
 use std::test::Fail;
 
 #[test]
-fn inserts_elements(rt: HostRuntime) -> Result<(), Fail> {
+fn edits_are_done(rt: HostRuntime) -> Result<(), Fail> {
     let alloc = rt.alloc();
     let mut dom = Dom::new(alloc)?;
     dom.apply(alloc, &element(alloc, 5, 1, None)?)?;
@@ -30,7 +30,10 @@ fn inserts_elements(rt: HostRuntime) -> Result<(), Fail> {
     );
     assert_eq!(rt; dom.focus(), None);
     change_texts(&rt, alloc, &mut dom)?;
+    move_nodes(&rt, alloc, &mut dom)?;
     read::<Brand>(&rt, &dom, Blank::new(1));
+    dom.apply(alloc, &Edit::Remove(ObjId(5)))?;
+    assert_eq!(rt; dom.focus(), None);
     Ok(())
 }
 
@@ -55,7 +58,66 @@ fn change_texts(rt: &impl Abort, alloc: Global, dom: &mut Dom) -> Result<(), Fai
     dom.apply(alloc, &text)?;
     dom.apply(alloc, &other)?;
     dom.apply(alloc, &hidden)?;
+    dom.apply(alloc, &Edit::Focus(Some(ObjId(6))))?;
+    assert_eq!(rt; dom.focus(), Some(ObjId(6)));
+    let runs = Runs::from_vec(vec![in alloc; run(0, 2, 0), run(2, 3, 1)]?);
+    let short = Runs::from_vec(vec![in alloc; run(0, 2, 0)]?);
+    let id = ObjId(6);
+    dom.apply(alloc, &Edit::SetRuns { id, runs })?;
+    assert_eq!(rt;
+        dom.apply(alloc, &Edit::SetRuns { id, runs: short }),
+        Err(EditCause::BadRuns)
+    );
     Ok(())
+}
+
+/// 9 goes from before 5 to below it, and 11 comes and goes.
+fn move_nodes(rt: &impl Abort, alloc: Global, dom: &mut Dom) -> Result<(), Fail> {
+    dom.apply(alloc, &moved(9, 5, None))?;
+    assert_eq!(rt;
+        dom.apply(alloc, &moved(5, 6, None)),
+        Err(EditCause::NotElement)
+    );
+    assert_eq!(rt;
+        dom.apply(alloc, &moved(5, 7, None)),
+        Err(EditCause::IntoItself)
+    );
+    assert_eq!(rt;
+        dom.apply(alloc, &moved(5, 1, Some(ObjId(5)))),
+        Err(EditCause::BadPlace)
+    );
+    assert_eq!(rt;
+        dom.apply(alloc, &Edit::Remove(ObjId(1))),
+        Err(EditCause::RootFixed)
+    );
+    dom.apply(alloc, &element(alloc, 11, 1, Some(ObjId(5)))?)?;
+    dom.apply(alloc, &Edit::Remove(ObjId(11)))?;
+    Ok(())
+}
+
+/// A move.
+fn moved(id: u32, into: u32, before: Option<ObjId>) -> Edit {
+    Edit::Move {
+        id: ObjId(id),
+        into: ObjId(into),
+        before,
+    }
+}
+
+/// A run without a frame.
+fn run(first: u32, past: u32, line: u32) -> Run {
+    let rect = Rect {
+        x: 0,
+        y: 0,
+        w: 0,
+        h: 0,
+    };
+    Run {
+        first,
+        past,
+        line,
+        rect,
+    }
 }
 
 /// A paragraph without attributes.
@@ -76,11 +138,11 @@ fn read<L: Ledger>(rt: &impl Abort, dom: &Dom, blank: Blank)
 {
     let (book, share) = blank.open::<L>();
     let mut steps = Steps::new(book, share);
-    let below_root = [ObjId(9), ObjId(5)];
-    assert_eq!(rt; dom.children(ObjId(1), &mut steps), below_root.as_slice());
+    assert_eq!(rt; dom.children(ObjId(1), &mut steps), [ObjId(5)].as_slice());
+    assert_eq!(rt; dom.children(ObjId(5), &mut steps), [ObjId(9)].as_slice());
     assert_eq!(rt; dom.parent(ObjId(7), &mut steps), Some(ObjId(9)));
     assert_eq!(rt; dom.parent(ObjId(1), &mut steps), None);
-    assert_eq!(rt; depth(dom.cell(ObjId(7), &mut steps)), Some(2));
+    assert_eq!(rt; depth(dom.cell(ObjId(7), &mut steps)), Some(3));
     assert_eq!(rt; depth(dom.cell(ObjId(8), &mut steps)), None);
     assert!(rt; is_said(dom.cell(ObjId(6), &mut steps), "two"));
     assert!(rt; is_said(dom.cell(ObjId(9), &mut steps), "p hidden"));

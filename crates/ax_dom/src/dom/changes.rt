@@ -1,13 +1,15 @@
 //! What an edit makes of the document.
-ghost use Rattle.std.specs.Prelude.{◌≡◌, OnOk, OnErr, None, IsTrue, false};
-ghost use Rattle.ax_base.specs.Document.{has, body};
+ghost use Rattle.std.specs.Prelude.{◌≡◌, ◌≢◌, nat_eq, OnOk, OnErr, None, IsTrue, false};
+ghost use Rattle.std.specs.List.{list_any};
+ghost use Rattle.ax_base.specs.Document.{root, has, body};
 ghost use Rattle.ax_dom.specs.Bodies.{body_after};
-ghost use Rattle.ax_dom.specs.Changes.{inserted, with_body, edited};
-ghost use Rattle.ax_dom.specs.Refusals.{MayInsert, edit_cause, is_too_long};
+ghost use Rattle.ax_dom.specs.Changes.{inserted, removed, moved, focus_outside, with_body, with_focus, edited};
+ghost use Rattle.ax_dom.specs.Refusals.{MayInsert, MayMove, may_focus, edit_cause, is_too_long};
 
 use super::{Dom, NO_FRAME};
 use crate::cell::{Cell, Slot};
 use crate::edit::Edit;
+use crate::slots::placed_anew;
 use ax_base::{Body, Ids, NoMemory, ObjId, Runs};
 use std::alloc::Global;
 
@@ -45,7 +47,17 @@ impl Dom {
                 };
                 self.insert(alloc, *id, *into, before, body)
             }
-            Edit::Chars { id, .. } | Edit::Set { id, .. } => self.amend(alloc, *id, e),
+            Edit::Remove(id) => self.remove(alloc, *id),
+            Edit::Move { id, into, before } => self.move_node(alloc, *id, *into, before),
+            Edit::Chars { id, .. }
+            | Edit::Set { id, .. }
+            | Edit::Unset { id, .. }
+            | Edit::SetRuns { id, .. }
+            | Edit::Frame { id, .. } => self.amend(alloc, *id, e),
+            Edit::Focus(id) => {
+                self.set_focus(id);
+                Ok(())
+            }
         }
     }
 
@@ -89,4 +101,71 @@ impl Dom {
         self.slots.amend(alloc, id, e)?;
         Ok(())
     }
+
+    /// Takes out a node and all that is below it. At an error nothing changes.
+    fn remove(&mut self, alloc: Global, id: ObjId) -> Result<(), NoMemory>
+        requires known { IsTrue (has self.old id) }
+        requires apart { id ≢ root }
+        ensures ok { OnOk result (self.new ≡ removed self.old id) }
+        ensures err { OnErr result (self.new ≡ self.old) }
+    {
+        let mut gone = Ids::new(alloc);
+        self.push_subtree(id, &mut gone)?;
+        let from = self.parent_of(id);
+        let focus = focus_without(&self.focus(), gone.as_slice());
+        self.slots.take_out(&from, id);
+        self.slots.remove_all(gone.as_slice());
+        self.focus = focus;
+        Ok(())
+    }
+
+    /// Moves a node and all that is below it, where nothing refuses it. At an error nothing changes.
+    fn move_node(
+        &mut self,
+        alloc: Global,
+        id: ObjId,
+        into: ObjId,
+        before: &Option<ObjId>,
+    ) -> Result<(), NoMemory>
+        requires { MayMove self.old id into before.now }
+        ensures ok { OnOk result (self.new ≡ moved self.old id into before.now) }
+        ensures err { OnErr result (self.new ≡ self.old) }
+    {
+        let mut whole = Ids::new(alloc);
+        self.push_subtree(id, &mut whole)?;
+        let list = placed_anew(alloc, self.children_of(into), before, id)?;
+        let base = u32::from(self.depth_of(into)) + 1;
+        let top = u32::from(self.depth_of(id));
+        let from = self.parent_of(id);
+        self.slots.take_out(&from, id);
+        self.slots.set_children(into, list);
+        self.slots.set_parent(id, into);
+        self.slots.lift(whole.as_slice(), base, top);
+        Ok(())
+    }
+
+    /// Focuses a node, or none.
+    fn set_focus(&mut self, id: &Option<ObjId>)
+        requires { IsTrue (may_focus self.old id.now) }
+        ensures { self.new ≡ with_focus self.old id.now }
+    {
+        self.focus = *id;
+    }
+}
+
+/// The focused node, or none where it is among some that go.
+fn focus_without(focus: &Option<ObjId>, gone: &[ObjId]) -> Option<ObjId>
+    ensures { result ≡ focus_outside gone.now focus.now }
+{
+    match focus {
+        Some(id) if !is_among(*id, gone) => Some(*id),
+        _ => None,
+    }
+}
+
+/// Whether an id is among some.
+fn is_among(id: ObjId, ids: &[ObjId]) -> bool
+    ensures { result ≡ list_any (nat_eq id) ids.now }
+{
+    ids.iter().any(|x| id.0 == x.0)
 }

@@ -2,12 +2,13 @@
 ghost use Rattle.std.specs.Prelude.{◌≡◌, ◌+◌, nat_eq, nat_lt, false};
 ghost use Rattle.std.specs.Option.{option_map_or};
 ghost use Rattle.ax_base.specs.Document.{has, body, depth, is_text};
-ghost use Rattle.ax_dom.specs.Refusals.{is_taken, is_place, lacks_node, reuses_id, lacks_place, wants_element, wants_text, goes_too_deep, is_one_too_many, is_too_long, is_long_value, has_long_value, is_long_text, edit_cause};
+ghost use Rattle.ax_dom.specs.Refusals.{is_taken, is_place, lacks_node, reuses_id, lacks_place, wants_element, wants_text, goes_too_deep, is_one_too_many, is_too_long, is_long_value, has_long_value, is_long_text, breaks_runs, length_of, may_focus, goes_into_itself, removes_root, edit_cause};
+ghost use Rattle.ax_dom.specs.Runs.{go_on, may_have_runs};
 
 use super::Dom;
 use crate::cause::EditCause;
 use crate::edit::Edit;
-use ax_base::{Attrs, Body, ObjId, Text};
+use ax_base::{Attrs, Body, ObjId, Run, Text};
 
 impl Dom {
     /// Why an edit is refused, if it is.
@@ -24,10 +25,16 @@ impl Dom {
             Some(EditCause::NotElement)
         } else if self.wants_text(e) {
             Some(EditCause::NotText)
+        } else if self.goes_into_itself(e) {
+            Some(EditCause::IntoItself)
+        } else if removes_root(e) {
+            Some(EditCause::RootFixed)
         } else if self.goes_too_deep(e) {
             Some(EditCause::TooDeep)
         } else if self.is_one_too_many(e) {
             Some(EditCause::TooMany)
+        } else if self.breaks_runs(e) {
+            Some(EditCause::BadRuns)
         } else if is_too_long(e) {
             Some(EditCause::TooLong)
         } else {
@@ -41,7 +48,14 @@ impl Dom {
     {
         match e {
             Edit::InsertElement { into, .. } | Edit::InsertText { into, .. } => !self.has(*into),
-            Edit::Chars { id, .. } | Edit::Set { id, .. } => !self.has(*id),
+            Edit::Chars { id, .. }
+            | Edit::Set { id, .. }
+            | Edit::Unset { id, .. }
+            | Edit::SetRuns { id, .. }
+            | Edit::Frame { id, .. } => !self.has(*id),
+            Edit::Remove(id) => !self.has(*id),
+            Edit::Move { id, into, .. } => !self.has(*id) || !self.has(*into),
+            Edit::Focus(id) => !self.may_focus(id),
         }
     }
 
@@ -62,6 +76,8 @@ impl Dom {
         match e {
             Edit::InsertElement { into, before, .. } | Edit::InsertText { into, before, .. } =>
                 !self.is_place(*into, before),
+            Edit::Move { id, into, before } => !self.is_place(*into, before)
+                || is_same(before, *id),
             _ => false,
         }
     }
@@ -71,8 +87,12 @@ impl Dom {
         ensures { result ≡ wants_element self.now e.now }
     {
         match e {
-            Edit::InsertElement { into, .. } | Edit::InsertText { into, .. } => self.is_text(*into),
-            Edit::Set { id, .. } => self.is_text(*id),
+            Edit::InsertElement { into, .. }
+            | Edit::InsertText { into, .. }
+            | Edit::Move { into, .. } => self.is_text(*into),
+            Edit::Set { id, .. } | Edit::Unset { id, .. } | Edit::Frame { id, .. } => {
+                self.is_text(*id)
+            }
             _ => false,
         }
     }
@@ -82,7 +102,17 @@ impl Dom {
         ensures { result ≡ wants_text self.now e.now }
     {
         match e {
-            Edit::Chars { id, .. } => !self.is_text(*id),
+            Edit::Chars { id, .. } | Edit::SetRuns { id, .. } => !self.is_text(*id),
+            _ => false,
+        }
+    }
+
+    /// Whether a node would move into itself or below itself.
+    fn goes_into_itself(&self, e: &Edit) -> bool
+        ensures { result ≡ goes_into_itself self.now e.now }
+    {
+        match e {
+            Edit::Move { id, into, .. } => self.is_above(*id, *into),
             _ => false,
         }
     }
@@ -92,9 +122,10 @@ impl Dom {
         ensures { result ≡ goes_too_deep self.now e.now }
     {
         match e {
-            Edit::InsertElement { into, .. } | Edit::InsertText { into, .. } => self.is_deepest(
-                *into,
-            ),
+            Edit::InsertElement { into, .. } | Edit::InsertText { into, .. } => {
+                self.is_deepest(*into)
+            }
+            Edit::Move { id, into, .. } => self.is_too_high(*id, *into),
             _ => false,
         }
     }
@@ -106,6 +137,36 @@ impl Dom {
         match e {
             Edit::InsertElement { .. } | Edit::InsertText { .. } => self.used.len() >= 65536,
             _ => false,
+        }
+    }
+
+    /// Whether the runs are not those that the text may have.
+    fn breaks_runs(&self, e: &Edit) -> bool
+        ensures { result ≡ breaks_runs self.now e.now }
+    {
+        match e {
+            Edit::SetRuns { id, runs } => !may_have_runs(self.length_of(*id), runs.as_slice()),
+            _ => false,
+        }
+    }
+
+    /// How many characters a text has: none of an element and of an unknown id.
+    fn length_of(&self, id: ObjId) -> usize
+        ensures { result ≡ length_of (body self.now id) }
+    {
+        match self.slots.get(id) {
+            Some(slot) => length_of(&slot.cell.body),
+            None => 0,
+        }
+    }
+
+    /// Whether none is to be focused, or a node that is there.
+    fn may_focus(&self, id: &Option<ObjId>) -> bool
+        ensures { result ≡ may_focus self.now id.now }
+    {
+        match id {
+            Some(n) => self.has(*n),
+            None => true,
         }
     }
 
@@ -129,7 +190,7 @@ impl Dom {
     {
         match before {
             None => true,
-            Some(b) => is_same(self.parent_of(*b), into),
+            Some(b) => is_same(&self.parent_of(*b), into),
         }
     }
 
@@ -162,12 +223,22 @@ impl Dom {
 }
 
 /// Whether it is this id.
-fn is_same(o: Option<ObjId>, id: ObjId) -> bool
-    ensures { result ≡ option_map_or (nat_eq id) o false }
+fn is_same(o: &Option<ObjId>, id: ObjId) -> bool
+    ensures { result ≡ option_map_or (nat_eq id) o.now false }
 {
     match o {
         None => false,
         Some(n) => id.number() == n.number(),
+    }
+}
+
+/// Whether the root is to be removed.
+fn removes_root(e: &Edit) -> bool
+    ensures { result ≡ removes_root e.now }
+{
+    match e {
+        Edit::Remove(id) => id.number() == 1,
+        _ => false,
     }
 }
 
@@ -189,6 +260,7 @@ fn is_too_long(e: &Edit) -> bool
         Edit::InsertElement { attrs, .. } => has_long_value(attrs),
         Edit::InsertText { chars, .. } | Edit::Chars { chars, .. } => is_long_text(chars),
         Edit::Set { value, .. } => is_long_value(value),
+        _ => false,
     }
 }
 
@@ -214,4 +286,37 @@ fn is_long_text(chars: &Text) -> bool
     ensures { result ≡ is_long_text chars.now }
 {
     chars.count() > 65536
+}
+
+/// How many characters a text has.
+fn length_of(body: &Body) -> usize
+    ensures { result ≡ length_of body.now }
+{
+    match body {
+        Body::Words { chars, .. } => chars.count(),
+        Body::Element { .. } => 0,
+    }
+}
+
+/// Whether a text of so many characters may have these runs.
+fn may_have_runs(end: usize, runs: &[Run]) -> bool
+    ensures { result ≡ may_have_runs end runs.now }
+{
+    runs.is_empty() || go_on(end, runs)
+}
+
+/// Whether runs go from the begin of a text to its end.
+fn go_on(end: usize, runs: &[Run]) -> bool
+    ensures { result ≡ go_on end 0 0 runs.now }
+{
+    let mut from = 0;
+    let mut line = 0;
+    for run in runs {
+        if !(run.first == from && run.first < run.past && line <= run.line) {
+            return false;
+        }
+        from = run.past;
+        line = run.line;
+    }
+    from as usize == end
 }

@@ -17,5 +17,5 @@ pub returns-in_ok-copy-in-None-clause-ok : goal.returns-in_ok-copy-in-None-claus
 returns-in_ok-copy-in-None-clause-ok c =
     on_ok_weaker c.push.result
     (λ e. e ∙ (λ i. c.args.self.now ++ record { name = c.in_ok-copy-in-None.ensures i; value = c.args.value } ∷ [])
-        ∙ sym (with_value-none c.args.name.now c.args.value c.args.self.now (no_value c.args.name.now c.args.self.now c.in-None.ensures.place)))
+    ∙ sym (with_value-none c.args.name.now c.args.value c.args.self.now (no_value c.args.name.now c.args.self.now c.in-None.ensures.place)))
     c.push.ensures.ok

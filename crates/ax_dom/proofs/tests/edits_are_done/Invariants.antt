@@ -1,4 +1,4 @@
-use Rattle.ax_dom.proofs.tests.inserts_elements.Given as goal
+use Rattle.ax_dom.proofs.tests.edits_are_done.Given as goal
 
 -- the ledger of the test is the blank one
 abbrev pub ghosts-read : goal.ghosts-read

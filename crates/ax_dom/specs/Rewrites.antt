@@ -1,0 +1,37 @@
+-- Slots that are rewritten in their places.
+use Rattle.std.specs.Prelude.{◌≡◌, ℕ, Bool, false, nat_eq, ◌==◌, ◌+◌, ◌-◌, min, if◌then◌else◌, List, Option, Some}
+use Rattle.std.specs.List.{list_any}
+use Rattle.std.specs.Option.{option_map, option_map_or}
+use Rattle.std.specs.Map.{keys_of}
+use Rattle.ax_dom.specs.declared.cell.Slot.{Slot}
+use Rattle.ax_dom.specs.Places.{without}
+use Rattle.ax_dom.specs.Slots.{slot_at}
+
+-- The ids stay, and each slot is made of its id and of what it was.
+pub record IsRewritten (old new : List (ℕ × Slot)) (make : ℕ → Slot → Slot) : Type 0 where
+  pub same_ids : keys_of new ≡ keys_of old
+  pub each : (q : ℕ) → slot_at new q ≡ option_map (make q) (slot_at old q)
+
+-- a node's parent has it among its children no more
+abbrev pub taken_out : Option ℕ → ℕ → ℕ → Slot → Slot
+taken_out from n q s = if option_map_or (λ p. p == q) from false then record s { children = without n s.children } else s
+
+-- a node has other children
+abbrev pub with_list : ℕ → List ℕ → ℕ → Slot → Slot
+with_list n list q s = if n == q then record s { children = list } else s
+
+-- a node has another parent
+abbrev pub with_parent : ℕ → ℕ → ℕ → Slot → Slot
+with_parent n parent q s = if n == q then record s { cell = record s.cell { parent = Some parent } } else s
+
+-- a node is as deep below a level as it was below another
+abbrev pub lifted : ℕ → ℕ → Slot → Slot
+lifted base top s = record s { cell = record s.cell { depth = min (base + min (s.cell.depth - top) 64) 64 } }
+
+-- so is one node
+abbrev pub lifted_at : ℕ → ℕ → ℕ → ℕ → Slot → Slot
+lifted_at n base top q s = if n == q then lifted base top s else s
+
+-- so are some nodes
+abbrev pub lifted_among : List ℕ → ℕ → ℕ → ℕ → Slot → Slot
+lifted_among ids base top q s = if list_any (nat_eq q) ids then lifted base top s else s
