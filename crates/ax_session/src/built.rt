@@ -43,6 +43,12 @@ impl Kinds {
         self.buttons.contains(&id.0)
     }
 
+    fn is_text(&self, id: ObjId) -> bool
+        ensures { result ≡ holds self.now.texts id }
+    {
+        self.texts.contains(&id.0)
+    }
+
     /// Notes what an edit inserts.
     fn note(&mut self, edit: &Edit) -> Result<(), NoMemory>
         ensures { OnOk result (self.new ≡ after_edit self.old edit.now) }
@@ -147,8 +153,14 @@ fn is_built_edit(kinds: &Kinds, edit: &Edit) -> bool
             ..
         } => is_built_tag(tag) && are_built_attrs(attrs) && !kinds.is_button(*into),
         Edit::InsertText { .. } => true,
-        Edit::Chars { .. } => true,
+        Edit::Remove(_) => true,
+        Edit::Move { id, into, .. } => kinds.is_text(*id) || !kinds.is_button(*into),
         Edit::Set { name, .. } => is_built_name(name),
+        Edit::Unset { .. } => true,
+        Edit::Chars { .. } => true,
+        Edit::SetRuns { .. } => true,
+        Edit::Frame { .. } => true,
+        Edit::Focus(_) => true,
     }
 }
 
