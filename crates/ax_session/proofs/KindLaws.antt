@@ -11,7 +11,7 @@ use Rattle.std.specs.Str.{bytes_eq}
 use Rattle.std.specs.BTreeSet.{insert_key}
 use Rattle.ax_base.proofs.Lookups.{finds_is, list_any-insert_key}
 use Rattle.ax_dom.specs.declared.edit.Edit.{Edit}
-use Rattle.ax_dom.specs.declared.edit.Edit.TheVariants.{InsertElement, InsertText, Move}
+use Rattle.ax_dom.specs.declared.edit.Edit.TheVariants.{InsertElement, InsertText, Remove, Move, Set, Unset, Chars as NewChars, SetRuns, Frame as NewFrame, Focus as NewFocus}
 use Rattle.ax_ask.specs.declared.requests.Request.{Request}
 use Rattle.ax_ask.specs.declared.requests.Request.TheVariants.{Root, Focus, Role, Name, Description, Value, States, Level, Live, Frame, Parent, Children, Compare, NextChar, PrevChar, NextWord, LineAt, TextOf, BoundsOf, Search, Hit}
 use Rattle.story_check.specs.declared.story.PageLine.{PageLine}
@@ -50,12 +50,27 @@ texts_kept ids id false = refl
 
 button_after : (n : ℕ) (ids : Ids) (e : Edit) → holds (after_edit ids e).buttons n ≡ (holds ids.buttons n || inserts_button n e)
 button_after n ids (InsertElement id into before tag attrs) = button_noted ids n id (bytes_eq tag (codes "button"))
-button_after n ids _ = or_false (holds ids.buttons n)
+button_after n ids (InsertText id into before chars) = or_false (holds ids.buttons n)
+button_after n ids (Remove id) = or_false (holds ids.buttons n)
+button_after n ids (Move id into before) = or_false (holds ids.buttons n)
+button_after n ids (Set id name value) = or_false (holds ids.buttons n)
+button_after n ids (Unset id name) = or_false (holds ids.buttons n)
+button_after n ids (NewChars id chars) = or_false (holds ids.buttons n)
+button_after n ids (SetRuns id runs) = or_false (holds ids.buttons n)
+button_after n ids (NewFrame id rect) = or_false (holds ids.buttons n)
+button_after n ids (NewFocus id) = or_false (holds ids.buttons n)
 
 text_after : (n : ℕ) (ids : Ids) (e : Edit) → holds (after_edit ids e).texts n ≡ (holds ids.texts n || inserts_text n e)
 text_after n ids (InsertElement id into before tag attrs) = ap (λ l. holds l n) (texts_kept ids id (bytes_eq tag (codes "button"))) ∙ or_false (holds ids.texts n)
 text_after n ids (InsertText id into before chars) = holds_one_more ids.texts id n
-text_after n ids _ = or_false (holds ids.texts n)
+text_after n ids (Remove id) = or_false (holds ids.texts n)
+text_after n ids (Move id into before) = or_false (holds ids.texts n)
+text_after n ids (Set id name value) = or_false (holds ids.texts n)
+text_after n ids (Unset id name) = or_false (holds ids.texts n)
+text_after n ids (NewChars id chars) = or_false (holds ids.texts n)
+text_after n ids (SetRuns id runs) = or_false (holds ids.texts n)
+text_after n ids (NewFrame id rect) = or_false (holds ids.texts n)
+text_after n ids (NewFocus id) = or_false (holds ids.texts n)
 
 buttons_after : (n : ℕ) (ids : Ids) (es : List Edit) → holds (after_edits ids es).buttons n ≡ (holds ids.buttons n || is_button es n)
 buttons_after n ids [] = or_false (holds ids.buttons n)
@@ -81,8 +96,15 @@ gathered s start mid last base page first b p m l =
 module _ (f g t u : ℕ → Bool) (buttons : (n : ℕ) → f n ≡ g n) (texts : (n : ℕ) → t n ≡ u n) where
   same_edit : (e : Edit) → is_built_edit f t e ≡ is_built_edit g u e
   same_edit (InsertElement id into before tag attrs) = ap (λ b. is_built_tag tag && are_built_attrs attrs && not b) (buttons into)
+  same_edit (InsertText id into before chars) = refl
+  same_edit (Remove id) = refl
   same_edit (Move id into before) = ap (λ b. b || not (f into)) (texts id) ∙ ap (λ b. u id || not b) (buttons into)
-  same_edit _ = refl
+  same_edit (Set id name value) = refl
+  same_edit (Unset id name) = refl
+  same_edit (NewChars id chars) = refl
+  same_edit (SetRuns id runs) = refl
+  same_edit (NewFrame id rect) = refl
+  same_edit (NewFocus id) = refl
 
   same_edits : (es : List Edit) → list_all (is_built_edit f t) es ≡ list_all (is_built_edit g u) es
   same_edits [] = refl

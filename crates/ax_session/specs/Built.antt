@@ -5,7 +5,7 @@ use Rattle.std.specs.Str.{bytes_eq}
 use Rattle.ax_base.specs.Characters.{Chars}
 use Rattle.ax_base.specs.declared.attrs.Attr.{Attr}
 use Rattle.ax_dom.specs.declared.edit.Edit.{Edit}
-use Rattle.ax_dom.specs.declared.edit.Edit.TheVariants.{InsertElement, InsertText, Move, Set}
+use Rattle.ax_dom.specs.declared.edit.Edit.TheVariants.{InsertElement, InsertText, Remove, Move, Set, Unset, Chars as NewChars, SetRuns, Frame, Focus as NewFocus}
 use Rattle.ax_ask.specs.declared.requests.Request.{Request}
 use Rattle.ax_ask.specs.declared.requests.Request.TheVariants.{Root, Focus, Role, Name, Parent, Children}
 use Rattle.story_check.specs.declared.story.PageLine.{PageLine}
@@ -49,9 +49,15 @@ is_text edits n = list_any (inserts_text n) edits
 -- stands below no button either.
 abbrev pub is_built_edit : (ℕ → Bool) → (ℕ → Bool) → Edit → Bool
 is_built_edit button text (InsertElement id into before tag attrs) = is_built_tag tag && are_built_attrs attrs && not (button into)
+is_built_edit button text (InsertText id into before chars) = true
+is_built_edit button text (Remove id) = true
 is_built_edit button text (Move id into before) = text id || not (button into)
 is_built_edit button text (Set id name value) = is_built_name name
-is_built_edit button text _ = true
+is_built_edit button text (Unset id name) = true
+is_built_edit button text (NewChars id chars) = true
+is_built_edit button text (SetRuns id runs) = true
+is_built_edit button text (Frame id rect) = true
+is_built_edit button text (NewFocus id) = true
 
 -- the requests that are built today
 abbrev pub is_built_request : Request → Bool

@@ -152,9 +152,15 @@ fn is_built_edit(kinds: &Kinds, edit: &Edit) -> bool
             attrs,
             ..
         } => is_built_tag(tag) && are_built_attrs(attrs) && !kinds.is_button(*into),
+        Edit::InsertText { .. } => true,
+        Edit::Remove(_) => true,
         Edit::Move { id, into, .. } => kinds.is_text(*id) || !kinds.is_button(*into),
         Edit::Set { name, .. } => is_built_name(name),
-        _ => true,
+        Edit::Unset { .. } => true,
+        Edit::Chars { .. } => true,
+        Edit::SetRuns { .. } => true,
+        Edit::Frame { .. } => true,
+        Edit::Focus(_) => true,
     }
 }
 
