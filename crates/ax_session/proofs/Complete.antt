@@ -2,12 +2,17 @@
 use Rattle.std.proofs.Common.{◌≡◌, ℕ, List, Option, Some, None, refl, sym, ◌∙◌, subst, inl}
 use Rattle.std.specs.Prelude.{String}
 use Rattle.std.specs.declared.alloc.Global.{Global}
+use Rattle.story_check.specs.Stories.{Script}
+use Rattle.ax_world.specs.Legal.{IsLegal}
+use Rattle.ax_world.specs.Machine.{played}
 use Rattle.ax_session.specs.declared.words.Command.{Command}
 use Rattle.ax_session.specs.declared.words.Command.TheVariants.{Dump, Replay}
 use Rattle.ax_session.specs.declared.words.Status.{Status}
 use Rattle.ax_session.specs.declared.words.Status.TheVariants.{Done, Refused, ReadFault, WriteFault, NoMemory, Words}
 use Rattle.ax_session.specs.declared.story.Refusal.{Refusal}
 use Rattle.ax_session.specs.Command.{command_of}
+use Rattle.ax_session.specs.Story.{Accepted}
+use Rattle.ax_session.specs.Texts.{text_of}
 use Rattle.ax_session.specs.TopCall.{Does, IsGood, Refuses, MayAnswer, Completes, IsComplete, TakesFor, HasInput}
 
 -- no input is both done and refused
@@ -41,3 +46,8 @@ complete_from words mine left new reads reads' writes writes' taken input status
     let same : mine ≡ command = cc in
     let read : taken ≡ other = one_input command left new taken other (subst (λ c. TakesFor c left new taken) same t) l in
     answers command other status text (subst (λ c. MayAnswer c other status text) same (subst (λ i. MayAnswer mine i status text) (e ∙ read) h))
+
+-- what a command writes of an accepted story
+pub does : (command : Command) (input : List ℕ) (story : Script) (text : List ℕ) → Accepted input story → IsLegal story (played story).entries → text ≡ text_of command story → Does command input text
+does Dump input story text a legal t = (story, a, t)
+does Replay input story text a legal t = (story, a, legal, t)

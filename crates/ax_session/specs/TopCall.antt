@@ -5,6 +5,8 @@ use Rattle.std.specs.Io.KnownBytes.{Appends}
 use Rattle.ax_edge.specs.Causes.{Rose}
 use Rattle.ax_edge.specs.Transfers.{TakesInput, AddsFront}
 use Rattle.story_check.specs.Stories.{Script}
+use Rattle.ax_world.specs.Legal.{IsLegal}
+use Rattle.ax_world.specs.Machine.{played}
 use Rattle.ax_session.specs.declared.words.Command.{Command}
 use Rattle.ax_session.specs.declared.words.Command.TheVariants.{Dump, Replay}
 use Rattle.ax_session.specs.declared.words.Status.{Status}
@@ -15,10 +17,11 @@ use Rattle.ax_session.specs.Refusals.{refusal_text}
 use Rattle.ax_session.specs.Story.{Accepted, IsRefused}
 use Rattle.ax_session.specs.Texts.{dump_text, replay_text}
 
--- the input is one that the command does, and this text shows what it comes to
+-- The input is one that the command does, and this text shows what it comes to. What is replayed is legal: each reply is that of the
+-- tree built afresh from the document after the edits flushed by its moment, and no moment falls.
 abbrev pub Does : Command → List ℕ → List ℕ → Type 0
 Does Dump input text = (story : Script) × Accepted input story × (text ≡ dump_text story)
-Does Replay input text = (story : Script) × Accepted input story × (text ≡ replay_text story)
+Does Replay input text = (story : Script) × Accepted input story × IsLegal story (played story).entries × (text ≡ replay_text story)
 
 -- the input is one that the command does
 abbrev pub IsGood : Command → List ℕ → Type 0

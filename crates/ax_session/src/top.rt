@@ -1,6 +1,8 @@
 //! The top call: from words and bytes to a status and bytes.
 ghost use Rattle.std.specs.Prelude.{◌≡◌, ◌↔◌, None, IfOk, IsErrOf};
 ghost use Rattle.ax_edge.specs.Causes.{Rose};
+ghost use Rattle.ax_world.specs.Legal.{IsLegal};
+ghost use Rattle.ax_world.specs.Machine.{played};
 ghost use Rattle.ax_session.specs.Command.{command_of};
 ghost use Rattle.ax_session.specs.Story.{IsReady};
 ghost use Rattle.ax_session.specs.Texts.{text_of};
@@ -13,6 +15,7 @@ use crate::story::accept;
 use crate::{AcceptFail, Command, Status, command_of};
 use ax_base::{NoMemory, Text};
 use ax_edge::{Gate, ReadError, Sink, Source, Spawner, read_input, write_whole};
+use ax_world::playing_ends;
 use std::alloc::Global;
 use std::sync::Wait;
 use std::thread::Threads;
@@ -110,11 +113,13 @@ fn reply_to(alloc: Global, command: Command, input: &[u8]) -> Result<Reply, NoMe
     }
 }
 
-/// What a command writes of a story that is accepted and built.
+/// What a command writes of a story that is accepted and built. What is played of it is legal.
 fn text_of(alloc: Global, command: Command, story: &Story) -> Result<Text, NoMemory>
     requires { IsReady story.now }
-    ensures { IfOk result (λ text. text ≡ text_of command story.now) }
+    ensures text { IfOk result (λ text. text ≡ text_of command story.now) }
+    ensures legal { IsLegal story.now (played story.now).entries }
 {
+    playing_ends();
     match command {
         Command::Dump => dump(alloc, story),
         Command::Replay => replay_text(alloc, story),
