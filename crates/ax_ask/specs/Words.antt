@@ -1,5 +1,5 @@
 -- The words of replies and notices.
-use Rattle.std.specs.Prelude.{ℕ, Bool, true, false, codes}
+use Rattle.std.specs.Prelude.{Bool, true, false, codes}
 use Rattle.ax_base.specs.Characters.{Chars}
 use Rattle.ax_base.specs.declared.states.Checked.{Checked}
 use Rattle.ax_base.specs.declared.states.Checked.TheVariants.{No, Yes, Mixed}

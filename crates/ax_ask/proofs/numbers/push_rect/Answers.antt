@@ -1,5 +1,5 @@
 -- The sides of a rectangle are passed as they are.
-use Rattle.std.proofs.Common.{◌≡◌, rules, w32}
+use Rattle.std.proofs.Common.{rules, w32}
 use Rattle.std.proofs.lemmas.Int.{to_z-of_z}
 use Rattle.std.specs.Prelude.{codes}
 use Rattle.ax_ask.specs.Numbers.{pair_text}

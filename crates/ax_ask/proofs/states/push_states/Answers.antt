@@ -1,4 +1,3 @@
-use Rattle.std.proofs.Common.{◌≡◌}
 use Rattle.ax_ask.proofs.Joined.{one_more}
 use Rattle.ax_ask.proofs.states.push_states.Goals as goal
 
