@@ -1,8 +1,7 @@
 -- What the core keeps stays right.
-use Rattle.std.proofs.Common.{◌≡◌, ℕ, zero, suc, ◌+◌, List, [], ◌∷◌, drop, Option, Some, None, refl, sym, ap, ◌∙◌, subst, arith}
+use Rattle.std.proofs.Common.{◌≡◌, ℕ, suc, ◌+◌, List, ◌∷◌, drop, Option, Some, None, refl, sym, ap, ◌∙◌, subst, arith}
 use Rattle.std.specs.Prelude.{slice_get, unwrap_or, IsTrue, Result, Ok, Err, IfOk}
 use Rattle.ax_base.specs.declared.memory.NoMemory.{NoMemory}
-use Rattle.std.specs.Option.{MatchOption}
 use Rattle.std.proofs.Math.Seq.{drop-cons}
 use Rattle.std.proofs.lemmas.Option.{slice_get_within, get_or_from_slice_get}
 use Rattle.std.proofs.lemmas.List.Elements.{All-get_or}
@@ -13,7 +12,6 @@ use Rattle.ax_dom.specs.Refusals.{edit_cause}
 use Rattle.ax_record.specs.Tree.{Tree}
 use Rattle.ax_record.specs.Records.{tree}
 use Rattle.story_check.specs.declared.story.ClientLine.{ClientLine}
-use Rattle.story_check.specs.declared.story.PageLine.{PageLine}
 use Rattle.story_check.specs.declared.story.PageLine.TheVariants.{Change, Flush, Until}
 use Rattle.story_check.specs.Stories.{Script, flushes}
 use Rattle.story_check.specs.Moments.{document_at, after_edits, after_flushes, tree_at, AreLinesAccepted}

@@ -1,5 +1,5 @@
 -- What the core keeps beside the machine's numbers.
-use Rattle.std.specs.Prelude.{◌≡◌, ℕ, ◌+◌, suc, List, drop, Option}
+use Rattle.std.specs.Prelude.{◌≡◌, ℕ, ◌+◌, suc, drop, Option}
 use Rattle.std.specs.Option.{MatchOption}
 use Rattle.ax_base.specs.Document.{Document}
 use Rattle.ax_record.specs.Tree.{Tree}

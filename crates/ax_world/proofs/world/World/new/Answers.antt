@@ -1,4 +1,4 @@
-use Rattle.std.proofs.Common.{◌≡◌, sym, subst, ap, ◌∙◌}
+use Rattle.std.proofs.Common.{sym, subst, ap, ◌∙◌}
 use Rattle.ax_dom.specs.Changes.{new_document}
 use Rattle.story_check.specs.Stories.{Script, flushes}
 use Rattle.story_check.specs.Moments.{after_edits, AreLinesAccepted}
