@@ -10,6 +10,8 @@ mod documents;
 mod progress;
 mod refusals;
 mod story;
+#[cfg(test)]
+mod tests;
 mod waits;
 
 pub use acceptance::accept;
