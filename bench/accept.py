@@ -4,7 +4,8 @@
     bench/accept.py PROGRAM
 
 PROGRAM is the proved program (crates/axcore/out/axcore after ./axcore --prove). Each story is refused at its end, so that
-nothing but acceptance is timed. It prints the time per line at two sizes, and their ratio; near 1 is flat.
+nothing but acceptance is timed. It prints the time per line at three sizes, and the ratio of the last to the first; near 1
+is flat.
 """
 import os
 import sys
@@ -12,6 +13,7 @@ import sys
 from timing import run, story
 
 REFUSED = 2
+RUNS = 9
 
 
 def edits(count):
@@ -35,8 +37,8 @@ def waits(count):
 def per_line(program, lines, command="replay"):
     lines = list(lines)
     with story(lines) as file, story(["{}"]) as nothing:
-        took = run([program, command], file.name, 5, REFUSED).seconds
-        start = run([program, command], nothing.name, 5, REFUSED).seconds
+        took = run([program, command], file.name, RUNS, REFUSED).seconds
+        start = run([program, command], nothing.name, RUNS, REFUSED).seconds
         return (took - start) / len(lines)
 
 
@@ -44,9 +46,10 @@ def main():
     if len(sys.argv) != 2:
         sys.exit(__doc__)
     program = os.path.abspath(sys.argv[1])
-    for title, make, small, large in [("edits", edits, 10000, 500000), ("waits", waits, 1000, 16000)]:
-        few, many = per_line(program, make(small)), per_line(program, make(large))
-        print("%s: %.3f us a line at %d, %.3f us at %d: ratio %.2f" % (title, few * 1e6, small, many * 1e6, large, many / few))
+    for title, make, counts in [("edits", edits, (1000, 20000, 500000)), ("waits", waits, (1000, 4000, 16000))]:
+        times = [per_line(program, make(count)) for count in counts]
+        told = ", ".join("%.3f us at %d" % (took * 1e6, count) for took, count in zip(times, counts))
+        print("%s: a line takes %s: ratio %.2f" % (title, told, times[-1] / times[0]))
 
 
 if __name__ == "__main__":
