@@ -1,0 +1,5 @@
+mod Rows
+pub mod Wholes
+pub mod Added
+pub mod Joining
+pub mod Again

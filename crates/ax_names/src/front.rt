@@ -1,0 +1,146 @@
+//! The first characters of what is put together.
+ghost use Rattle.std.specs.Prelude.{◌≡◌, ◌++◌, ◌==◌, OnOk, encode_utf8};
+ghost use Rattle.std.specs.Fmt.{char_count};
+ghost use Rattle.ax_base.specs.Characters.{flat, cut};
+ghost use Rattle.ax_names.specs.Pieces.{is_empty, begins_white, space_behind, beside};
+
+use ax_base::{NoMemory, Text};
+use std::alloc::Global;
+use std::marker::Model;
+
+/// The most characters that are kept.
+const MOST: usize = 512;
+
+/// The first 512 characters of all that is put into it. A clause sees it as the list of their bytes.
+///
+/// Where a call has no memory left, it is of no more use.
+#[derive(Drop)]
+pub struct Front {
+    string: String,
+    count: usize,
+}
+
+impl Model for Front {
+    ghost use Rattle.std.specs.Prelude.{◌≡◌, ◌≤◌, ℕ, List};
+    ghost use Rattle.std.specs.String.{string_bytes};
+    ghost use Rattle.std.specs.Fmt.{char_count};
+
+    ghost Value = { List ℕ };
+
+    ghost view = { λ f. string_bytes f.string };
+
+    ghost invariant = { λ f. (char_count (string_bytes f.string) ≡ f.count) × (f.count ≤ 512) };
+}
+
+impl Front {
+    /// No characters. It takes no memory.
+    pub fn new(alloc: Global) -> Front
+        ensures { result ≡ [] }
+    {
+        Front {
+            string: String::new(alloc),
+            count: 0,
+        }
+    }
+
+    /// Whether it has no character.
+    pub fn is_empty(&self) -> bool
+        ensures { result ≡ is_empty self.now }
+    {
+        self.string.as_str().is_empty()
+    }
+
+    /// Whether nothing that is put into it changes it any more.
+    pub fn is_full(&self) -> bool
+        ensures { result ≡ (char_count self.now == 512) }
+    {
+        self.count == MOST
+    }
+
+    /// The characters.
+    pub fn as_str(&self) -> &str
+        ensures { result.now ≡ self.now }
+    {
+        self.string.as_str()
+    }
+
+    /// The characters as a text. It takes no memory.
+    pub fn into_text(self) -> Text
+        ensures { result ≡ self }
+    {
+        Text::from_string(self.string)
+    }
+
+    /// Puts a character in.
+    pub fn put(&mut self, c: char) -> Result<(), NoMemory>
+        ensures { OnOk result (self.new ≡ cut (self.old ++ encode_utf8 c)) }
+    {
+        if self.count == MOST {
+            return Ok(());
+        }
+        self.string.push(c)?;
+        self.count += 1;
+        Ok(())
+    }
+
+    /// Puts a space in, where there are words and white space came behind them.
+    pub fn put_gap(&mut self, white: bool) -> Result<(), NoMemory>
+        ensures { OnOk result (self.new ≡ cut (self.old ++ space_behind self.old white)) }
+    {
+        if self.count == 0 {
+            return Ok(());
+        }
+        if !white {
+            return Ok(());
+        }
+        self.put(' ')
+    }
+
+    /// Puts the characters of a text in, as they are.
+    pub fn put_str(&mut self, text: &str) -> Result<(), NoMemory>
+        ensures { OnOk result (self.new ≡ cut (self.old ++ text.now)) }
+    {
+        let _ = &self.count;
+        for c in text.chars() {
+            self.put(c)?;
+        }
+        Ok(())
+    }
+
+    /// Puts flat words in, behind a space where white space came between.
+    pub fn put_words(&mut self, white: bool, words: &str) -> Result<(), NoMemory>
+        ensures { OnOk result (self.new ≡ cut (beside self.old white words.now)) }
+    {
+        let bare = words.is_empty();
+        self.put_gap(white && !bare)?;
+        self.put_str(words)
+    }
+
+    /// Puts a text in, made flat, where white space came before it or not. It reads no further once nothing can change.
+    pub fn put_flat(&mut self, white: bool, text: &str) -> Result<(), NoMemory>
+        ensures { OnOk result (self.new ≡ cut (beside self.old (white || begins_white text.now) (flat text.now))) }
+    {
+        let _ = &self.count;
+        let mut white = white;
+        for c in text.chars() {
+            if self.is_full() {
+                return Ok(());
+            }
+            if c.is_ascii_whitespace() {
+                white = true;
+            } else {
+                self.put_ink(white, c)?;
+                white = false;
+            }
+        }
+        Ok(())
+    }
+
+    /// Puts a character of a word in, behind a space where white space came between.
+    fn put_ink(&mut self, white: bool, c: char) -> Result<(), NoMemory>
+        ensures { OnOk result (self.new ≡ cut (beside self.old white (encode_utf8 c))) }
+    {
+        self.put_gap(white)?;
+        self.put(c)
+    }
+}
