@@ -108,7 +108,7 @@ beside_added (w ∷ ws) white t =
 -- a text behind a text
 
 -- whether words are there, and whether white space stands last, after a text
-abbrev seen : Bool → Chars → Bool
+abbrev abbrev seen : Bool → Chars → Bool
 seen some [] = some
 seen some (c ∷ cs) = cond (is_white c) (seen some cs) (seen true cs)
 
@@ -172,18 +172,18 @@ ink_last : (c : ℕ) (cs : Chars) (white : Bool) → ends_white (c ∷ cs) ≡ f
 ink_last c [] white e = ap (λ (l : Chars). is_empty l) (ink_step false white c [] e)
 ink_last c (d ∷ ds) white e = ink_last-step (is_white c) c d ds (ink_last d ds true e)
 
-ends_or : (r white none : Bool) → (r ≡ false → none ≡ false) → r ≡ r || (none && white)
+ends_or : (r white none : Bool) → (r ≡ false → none ≡ false) → r ≡ (r || (none && white))
 ends_or true white none h = refl
 ends_or false white none h = ap (λ (z : Bool). z && white) (sym (h refl))
 
 -- white space stands last where the text ends so, and where a text of no words follows white space
-pub last_white-flat : (t : Chars) (white : Bool) → last_white white t ≡ ends_white t || (is_empty (flat t) && white)
+pub last_white-flat : (t : Chars) (white : Bool) → last_white white t ≡ (ends_white t || (is_empty (flat t) && white))
 last_white-flat [] white = ap (λ (l : Chars). is_empty l && white) (sym flat_nil)
 last_white-flat (c ∷ cs) white =
     last_white-some white c cs ∙ ends_or (ends_white (c ∷ cs)) white (is_empty (flat (c ∷ cs))) (λ e. ap (λ (l : Chars). is_empty l) (flat_added (c ∷ cs) false) ∙ ink_last c cs false e)
 
 -- the same, where the text is looked at alone
-pub last_white-empty : (t : Chars) (white : Bool) → last_white white t ≡ ends_white t || (is_empty t && white)
+pub last_white-empty : (t : Chars) (white : Bool) → last_white white t ≡ (ends_white t || (is_empty t && white))
 last_white-empty [] white = refl
 last_white-empty (c ∷ cs) white = last_white-some white c cs ∙ ends_or (ends_white (c ∷ cs)) white false (λ e. refl)
 

@@ -1,12 +1,11 @@
 -- What is kept of texts that are put together.
-use Rattle.std.proofs.Common.{◌≡◌, ℕ, ◌≤◌, ◌<◌, List, [], ◌∷◌, ◌++◌, Bool, true, false, cond, not, ◌&&◌, ◌||◌, refl, sym, ap, ◌∙◌, arith, append_assoc, append-nil}
-use Rattle.std.specs.Str.{IsUtf8, chars}
-use Rattle.std.specs.Fmt.{take_chars, char_count}
-use lib.Utf8.{encode, encodes}
+use Rattle.std.proofs.Common.{◌≡◌, ℕ, ◌≤◌, ◌<◌, List, [], ◌∷◌, ◌++◌, Bool, true, false, cond, not, ◌&&◌, ◌||◌, Option, Some, None, suc, ◌-◌, length, refl, sym, ap, ◌∙◌, arith, append_assoc}
+use Rattle.std.specs.Str.{IsUtf8}
+use Rattle.std.specs.List.{slice_get}
 use Rattle.ax_base.specs.Characters.{Chars, is_white, is_blank, flat, cut}
 use Rattle.ax_names.specs.Pieces.{Phrase, is_empty, begins_white, ends_white, piece_of, space_behind, beside, joined, name_of, has_no_words, has_nothing}
-use Rattle.ax_names.proofs.Wholes.{is_whole, take_twice, take_last, take_first, take_full, whole_space, whole_take, whole_encode, whole_alone, empty_take, some_last}
-use Rattle.ax_names.proofs.Added.{space, added, beside_added, flat_append, flat_nil, last_white, last_white-false, last_white-append, last_white-flat, last_white-empty, ink_first, blank_flat, white_added, ink_added, whole_added, whole_flat}
+use Rattle.ax_names.proofs.Wholes.{is_whole, take_nil, take_twice, take_last, take_first, whole_space, whole_take, empty_take}
+use Rattle.ax_names.proofs.Added.{flat_append, flat_nil, last_white, last_white-false, last_white-append, last_white-flat, last_white-empty, ink_first, blank_flat, whole_flat}
 
 pub empty_cut : (x : Chars) → is_empty (cut x) ≡ is_empty x
 empty_cut x = empty_take 511 x
@@ -36,15 +35,15 @@ cut_beside a b white whole = cut_before a (cut b) white (whole_take 512 b whole)
 joined-words : (a b : Chars) → IsUtf8 b → cut (flat (a ++ b)) ≡ cut (beside (cut (flat a)) (ends_white a || begins_white b) (cut (flat b)))
 joined-words a b utf8 = ap cut (flat_append a b) ∙ sym (cut_beside (flat a) (flat b) (ends_white a || begins_white b) (whole_flat b utf8))
 
-or_and : (s r none : Bool) → (s ≡ false → none ≡ false) → s ≡ s || (none && r)
+or_and : (s r none : Bool) → (s ≡ false → none ≡ false) → s ≡ (s || (none && r))
 or_and true r none h = refl
 or_and false r none h = ap (λ (z : Bool). z && r) (sym (h refl))
 
-joined-starts : (a b : Chars) → begins_white (a ++ b) ≡ begins_white a || (is_empty (cut (flat a)) && begins_white b)
+joined-starts : (a b : Chars) → begins_white (a ++ b) ≡ (begins_white a || (is_empty (cut (flat a)) && begins_white b))
 joined-starts [] b = ap (λ (l : Bool). l && begins_white b) (sym (empty_cut (flat []) ∙ ap (λ (l : Chars). is_empty l) flat_nil))
 joined-starts (c ∷ cs) b = or_and (is_white c) (begins_white b) (is_empty (cut (flat (c ∷ cs)))) (λ e. empty_cut (flat (c ∷ cs)) ∙ ink_first c cs e)
 
-joined-ends : (a b : Chars) → ends_white (a ++ b) ≡ ends_white b || (is_empty (cut (flat b)) && ends_white a)
+joined-ends : (a b : Chars) → ends_white (a ++ b) ≡ (ends_white b || (is_empty (cut (flat b)) && ends_white a))
 joined-ends a b =
     sym (last_white-false (a ++ b)) ∙ last_white-append a b false ∙ ap (λ (w : Bool). last_white w b) (last_white-false a) ∙ last_white-flat b (ends_white a)
     ∙ ap (λ (e : Bool). ends_white b || (e && ends_white a)) (sym (empty_cut (flat b)))
@@ -72,69 +71,60 @@ nothing_kept (c ∷ cs) = go (is_white c) refl
 
 -- a text that is put in
 
+abbrev pub phrase : Chars → Bool → Bool → Phrase
+phrase words starts ends = record { words = words; starts = starts; ends = ends }
+
 pub pushed : (words : Chars) (starts ends : Bool) (t new : Chars) (new_starts new_ends : Bool)
     → new ≡ cut (beside words (ends || begins_white t) (flat t))
-    → new_starts ≡ starts || (is_empty words && begins_white t)
-    → new_ends ≡ ends_white t || (is_empty t && ends)
-    → record { words = new; starts = new_starts; ends = new_ends } ≡ joined (record { words = words; starts = starts; ends = ends }) (piece_of t)
+    → new_starts ≡ (starts || (is_empty words && begins_white t))
+    → new_ends ≡ (ends_white t || (is_empty t && ends))
+    → phrase new new_starts new_ends ≡ joined (phrase words starts ends) (piece_of t)
 pushed words starts ends t new new_starts new_ends p q r = λ i. record { words = words_is i; starts = q i; ends = ends_is i }
   where
     words_is : new ≡ cut (beside words (ends || begins_white t) (cut (flat t)))
     words_is = p ∙ sym (cut_after words (flat t) (ends || begins_white t))
 
-    ends_is : new_ends ≡ ends_white t || (is_empty (cut (flat t)) && ends)
+    ends_is : new_ends ≡ (ends_white t || (is_empty (cut (flat t)) && ends))
     ends_is = r ∙ sym (last_white-empty t ends) ∙ last_white-flat t ends ∙ ap (λ (e : Bool). ends_white t || (e && ends)) (sym (empty_cut (flat t)))
 
--- characters that are put in one at a time
+-- the piece of the empty text
+pub empty_piece : (words : Chars) → words ≡ [] → phrase words false false ≡ piece_of []
+empty_piece words is = λ i. record { words = words_is i; starts = false; ends = false }
+  where
+    words_is : words ≡ cut (flat [])
+    words_is = is ∙ sym (ap cut flat_nil ∙ take_nil 512)
 
--- what comes out where `left` is left to be put in
-abbrev pub after : Chars → Bool → Chars → Chars
-after out white left = cut (out ++ added (not (is_empty out)) white left)
+-- the piece of one text
+pub only_piece : (t : Chars) (p : Phrase) → IsUtf8 t → p ≡ joined (piece_of []) (piece_of t) → p ≡ piece_of t
+only_piece t p utf8 is = is ∙ sym (pieces_join [] t utf8)
 
-pub after_start : (out : Chars) (white : Bool) (t : Chars) → after out white t ≡ cut (beside out (white || begins_white t) (flat t))
-after_start out white t = ap cut (beside_added out white t)
+-- the ends of a text
 
-pub after_white : (out : Chars) (white : Bool) (c : ℕ) (rest : Chars) → is_white c ≡ true → after out white (encode c ++ rest) ≡ after out true rest
-after_white out white c rest e = ap (λ (l : Chars). cut (out ++ l)) (white_added (not (is_empty out)) white c rest e)
+pub begins_at : (t : Chars) (b : ℕ) → slice_get t 0 ≡ Some b → is_white b ≡ begins_white t
+begins_at [] b is = absurd (cc)
+begins_at (c ∷ cs) b is = let same : b ≡ c = cc in ap is_white same
 
--- the space before a character of a word
-abbrev inked : Chars → Bool → ℕ → Chars
-inked out white c = (out ++ space (not (is_empty out)) white) ++ encode c
+pub begins_nowhere : (t : Chars) → slice_get t 0 ≡ None → false ≡ begins_white t
+begins_nowhere [] is = refl
+begins_nowhere (c ∷ cs) is = absurd (cc)
 
-and_true : (x : Bool) → (x && true) ≡ x
-and_true true = refl
-and_true false = refl
+last_of : (c d : ℕ) (ds : Chars) → slice_get (c ∷ d ∷ ds) (length (c ∷ d ∷ ds) - 1) ≡ slice_get (d ∷ ds) (length (d ∷ ds) - 1)
+last_of c d ds = let deeper : length (c ∷ d ∷ ds) - 1 ≡ suc (length (d ∷ ds) - 1) = omega arith in ap (slice_get (c ∷ d ∷ ds)) deeper
 
-beside_char : (out : Chars) (white : Bool) (c : ℕ) → beside out white (encode c) ≡ inked out white c
-beside_char out white c =
-    ap (λ (w : Bool). out ++ (space_behind out w ++ encode c)) (ap (λ (e : Bool). white && not e) (some_last [] c) ∙ and_true white)
-    ∙ sym (append_assoc out (space (not (is_empty out)) white) (encode c))
+pub ends_at : (t : Chars) (b : ℕ) → slice_get t (length t - 1) ≡ Some b → is_white b ≡ ends_white t
+ends_at [] b is = absurd (cc)
+ends_at (c ∷ []) b is = let same : b ≡ c = cc in ap is_white same
+ends_at (c ∷ d ∷ ds) b is = ends_at (d ∷ ds) b (sym (last_of c d ds) ∙ is)
 
-pub after_ink : (out : Chars) (white : Bool) (c : ℕ) (cs : List ℕ) (new : Chars) → is_white c ≡ false → new ≡ cut (beside out white (encode c)) → after out white (encode c ++ encodes cs) ≡ after new false (encodes cs)
-after_ink out white c cs new e is =
-    let put : Chars = inked out white c in
-    let rest : Chars = added true false (encodes cs) in
-    let new_is : new ≡ cut put = is ∙ ap cut (beside_char out white c) in
-    let some : is_empty new ≡ false = ap (λ (l : Chars). is_empty l) new_is ∙ empty_cut put ∙ some_last (out ++ space (not (is_empty out)) white) c in
-    ap (λ (l : Chars). cut (out ++ l)) (ink_added (not (is_empty out)) white c (encodes cs) e)
-    ∙ ap cut (sym (append_assoc out (space (not (is_empty out)) white) (encode c ++ rest)) ∙ sym (append_assoc (out ++ space (not (is_empty out)) white) (encode c) rest))
-    ∙ sym (take_first put rest (whole_added cs true false) 512)
-    ∙ (λ i. cut (sym new_is i ++ added (not (sym some i)) false (encodes cs)))
+pub ends_nowhere : (t : Chars) → slice_get t (length t - 1) ≡ None → false ≡ ends_white t
+ends_nowhere [] is = refl
+ends_nowhere (c ∷ []) is = absurd (cc)
+ends_nowhere (c ∷ d ∷ ds) is = ends_nowhere (d ∷ ds) (sym (last_of c d ds) ∙ is)
 
-pub after_full : (out : Chars) (white : Bool) (cs : List ℕ) → char_count out ≡ 512 → after out white (encodes cs) ≡ out
-after_full out white cs full = take_full out (added (not (is_empty out)) white (encodes cs)) (whole_added cs (not (is_empty out)) white) 512 full
-
-pub after_end : (out : Chars) (white : Bool) → cut out ≡ out → after out white [] ≡ out
-after_end out white kept = ap cut (append-nil out) ∙ kept
-
--- words that are put in
-
--- a space, and then words
-pub gap_then : (out mid new words : Chars) (white : Bool) → is_whole words ≡ true → mid ≡ cut (out ++ space_behind out (white && not (is_empty words))) → new ≡ cut (mid ++ words) → new ≡ cut (beside out white words)
-gap_then out mid new words white whole is more =
-    more ∙ ap (λ (l : Chars). cut (l ++ words)) is ∙ take_first (out ++ space_behind out (white && not (is_empty words))) words whole 512
-    ∙ ap cut (append_assoc out (space_behind out (white && not (is_empty words))) words)
-
--- one more character
-pub one_more : (start front new : Chars) (cs : List ℕ) (c : ℕ) → front ≡ cut (start ++ encodes cs) → new ≡ cut (front ++ encode c) → new ≡ cut ((start ++ encodes cs) ++ encode c)
-one_more start front new cs c is more = more ∙ ap (λ (l : Chars). cut (l ++ encode c)) is ∙ take_first (start ++ encodes cs) (encode c) (whole_alone c) 512
+-- a piece that is put behind another
+pub appended : (words : Chars) (starts ends : Bool) (other : Phrase) (new : Chars) (new_starts new_ends : Bool)
+    → new ≡ cut (beside words (ends || other.starts) other.words)
+    → new_starts ≡ (starts || (is_empty words && other.starts))
+    → new_ends ≡ (other.ends || (is_empty other.words && ends))
+    → phrase new new_starts new_ends ≡ joined (phrase words starts ends) other
+appended words starts ends other new new_starts new_ends p q r = λ i. record { words = p i; starts = q i; ends = r i }

@@ -87,7 +87,7 @@ impl Front {
     pub fn put_gap(&mut self, white: bool) -> Result<(), NoMemory>
         ensures { OnOk result (self.new ≡ cut (self.old ++ space_behind self.old white)) }
     {
-        if self.count == 0 {
+        if self.is_empty() {
             return Ok(());
         }
         if !white {
@@ -121,16 +121,16 @@ impl Front {
         ensures { OnOk result (self.new ≡ cut (beside self.old (white || begins_white text.now) (flat text.now))) }
     {
         let _ = &self.count;
-        let mut white = white;
+        let mut apart = white;
         for c in text.chars() {
             if self.is_full() {
                 return Ok(());
             }
             if c.is_ascii_whitespace() {
-                white = true;
+                apart = true;
             } else {
-                self.put_ink(white, c)?;
-                white = false;
+                self.put_ink(apart, c)?;
+                apart = false;
             }
         }
         Ok(())

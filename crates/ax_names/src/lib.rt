@@ -17,8 +17,8 @@ pub use pieces::Piece;
 ///
 /// It is a law of the definitions, which this call carries.
 pub fn pieces_tell()
-    ensures joined { (a b : Chars) → IsUtf8 b → piece_of (a ++ b) ≡ joined (piece_of a) (piece_of b) }
-    ensures flat { (t : Chars) → piece_of (flat t) ≡ flattened (piece_of t) }
+    ensures together { (a b : Chars) → IsUtf8 b → piece_of (a ++ b) ≡ joined (piece_of a) (piece_of b) }
+    ensures again { (t : Chars) → piece_of (flat t) ≡ flattened (piece_of t) }
     ensures name { (t : Chars) → name_of (piece_of t) ≡ cut (flat t) }
     ensures blank { (t : Chars) → has_no_words (piece_of t) ≡ is_blank t }
     ensures empty { (t : Chars) → has_nothing (piece_of t) ≡ is_empty t }

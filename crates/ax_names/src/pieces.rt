@@ -67,7 +67,8 @@ impl Piece {
     {
         let bare = self.words.is_empty();
         let blank = other.words.is_empty();
-        self.words.put_words(self.ends || other.starts, other.words.as_str())?;
+        let white = self.ends || other.starts;
+        self.words.put_words(white, other.words.as_str())?;
         self.starts = self.starts || (bare && other.starts);
         self.ends = other.ends || (blank && self.ends);
         Ok(())
