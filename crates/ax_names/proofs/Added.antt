@@ -1,13 +1,10 @@
 -- What a text adds to flat words, one byte at a time.
 use Rattle.std.proofs.Common.{◌≡◌, ℕ, ◌/◌, ◌<◌, ◌≤◌, List, [], ◌∷◌, ◌++◌, Bool, true, false, cond, not, ◌&&◌, ◌||◌, refl, sym, ap, ◌∙◌, arith, append_assoc, append-nil, ltb}
-use Rattle.std.specs.Str.{IsUtf8, chars}
 use Rattle.std.specs.List.{join_with_byte, list_all}
-use Rattle.std.proofs.lemmas.Str.{encodes-chars}
 use Rattle.std.proofs.lemmas.Bool.Decides.{nat_tests}
-use lib.Utf8.{encode, encodes, next}
+use lib.Utf8.{encode, next}
 use Rattle.ax_base.specs.Characters.{Chars, is_white, is_blank, tokens, tokens_after, flat}
-use Rattle.ax_names.specs.Pieces.{is_empty, begins_white, ends_white, space_behind, beside}
-use Rattle.ax_names.proofs.Wholes.{is_whole, whole_encode, whole_space}
+use Rattle.ax_names.specs.Pieces.{is_empty, begins_white, ends_white, space_behind, spaced}
 
 -- the space before a word, where words and white space stand before it
 abbrev pub space : Bool → Bool → Chars
@@ -100,10 +97,9 @@ added_some [] true = refl
 added_some [] false = refl
 added_some (c ∷ cs) white = added_some-step c cs (added_some cs true) (is_white c) white
 
-pub beside_added : (words : Chars) (white : Bool) (t : Chars) → words ++ added (not (is_empty words)) white t ≡ beside words (white || begins_white t) (flat t)
-beside_added [] white t = sym (flat_added t white)
-beside_added (w ∷ ws) white t =
-    ap (λ (l : Chars). (w ∷ ws) ++ l) (added_some t white ∙ ap (λ (l : Chars). space true ((white || begins_white t) && not (is_empty l)) ++ l) (sym (flat_added t false)))
+pub spaced_added : (words : Chars) (white : Bool) (t : Chars) → added (not (is_empty words)) white t ≡ spaced words (white || begins_white t) (flat t)
+spaced_added [] white t = sym (flat_added t white)
+spaced_added (w ∷ ws) white t = added_some t white ∙ ap (λ (l : Chars). space true ((white || begins_white t) && not (is_empty l)) ++ l) (sym (flat_added t false))
 
 -- a text behind a text
 
@@ -156,12 +152,12 @@ pub last_white-append : (a b : Chars) (white : Bool) → last_white white (a ++ 
 last_white-append [] b white = refl
 last_white-append (c ∷ cs) b white = last_white-append cs b (is_white c)
 
-pub flat_append : (a b : Chars) → flat (a ++ b) ≡ beside (flat a) (ends_white a || begins_white b) (flat b)
+pub flat_append : (a b : Chars) → flat (a ++ b) ≡ flat a ++ spaced (flat a) (ends_white a || begins_white b) (flat b)
 flat_append a b =
     flat_added (a ++ b) false ∙ added_append a b false false
     ∙ (λ i. added false false a ++ added (seen_false a false i) (last_white-false a i) b)
     ∙ ap (λ (l : Chars). l ++ added (not (is_empty l)) (ends_white a) b) (sym (flat_added a false))
-    ∙ beside_added (flat a) (ends_white a) b
+    ∙ ap (λ (l : Chars). flat a ++ l) (spaced_added (flat a) (ends_white a) b)
 
 -- a text that ends in no white space has a word
 ink_last-step : (s : Bool) (c d : ℕ) (ds : Chars) → is_empty (added false true (d ∷ ds)) ≡ false → is_empty (cond s (added false true (d ∷ ds)) (c ∷ added true false (d ∷ ds))) ≡ false
@@ -238,16 +234,3 @@ ink_added some white c rest e = go (ltb c 128) (ltb c 2048) (ltb c 65536)
         ink_step some white (240 + c / 262144) (next (c / 4096) ∷ next (c / 64) ∷ next c ∷ rest) (high_ink (240 + c / 262144) (omega arith))
         ∙ ap (λ (l : Chars). space some white ++ ((240 + c / 262144) ∷ l))
             (on (c / 4096) (next (c / 64) ∷ next c ∷ rest) ∙ ap (λ (l : Chars). next (c / 4096) ∷ l) (on (c / 64) (next c ∷ rest) ∙ ap (λ (l : Chars). next (c / 64) ∷ l) (on c rest)))
-
--- what a text adds begins a character
-whole_added-step : (s : Bool) (some white : Bool) (c : ℕ) (cs : List ℕ) → is_white c ≡ s → is_whole (added some true (encodes cs)) ≡ true → is_whole (added some white (encode c ++ encodes cs)) ≡ true
-whole_added-step true some white c cs e ih = ap is_whole (white_added some white c (encodes cs) e) ∙ ih
-whole_added-step false some white c cs e ih =
-    ap is_whole (ink_added some white c (encodes cs) e) ∙ whole_space (some && white) (encode c ++ added true false (encodes cs)) (whole_encode c (added true false (encodes cs)))
-
-pub whole_added : (cs : List ℕ) (some white : Bool) → is_whole (added some white (encodes cs)) ≡ true
-whole_added [] some white = refl
-whole_added (c ∷ cs) some white = whole_added-step (is_white c) some white c cs refl (whole_added cs some true)
-
-pub whole_flat : (t : Chars) → IsUtf8 t → is_whole (flat t) ≡ true
-whole_flat t utf8 = ap is_whole (flat_added t false ∙ ap (λ (l : Chars). added false false l) (sym (encodes-chars t utf8))) ∙ whole_added (chars t) false false

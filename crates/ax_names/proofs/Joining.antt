@@ -1,39 +1,30 @@
 -- What is kept of texts that are put together.
-use Rattle.std.proofs.Common.{◌≡◌, ℕ, ◌≤◌, ◌<◌, List, [], ◌∷◌, ◌++◌, Bool, true, false, cond, not, ◌&&◌, ◌||◌, Option, Some, None, suc, ◌-◌, length, refl, sym, ap, ◌∙◌, arith, append_assoc}
-use Rattle.std.specs.Str.{IsUtf8}
+use Rattle.std.proofs.Common.{◌≡◌, ℕ, suc, ◌-◌, List, [], ◌∷◌, ◌++◌, length, Bool, true, false, cond, not, ◌&&◌, ◌||◌, Option, Some, None, refl, sym, ap, ◌∙◌, arith}
+use Rattle.std.specs.Prelude.{nat_lt}
 use Rattle.std.specs.List.{slice_get}
 use Rattle.ax_base.specs.Characters.{Chars, is_white, is_blank, flat, cut}
-use Rattle.ax_names.specs.Pieces.{Phrase, is_empty, begins_white, ends_white, piece_of, space_behind, beside, joined, name_of, has_no_words, has_nothing}
-use Rattle.ax_names.proofs.Wholes.{is_whole, take_nil, take_twice, take_last, take_first, whole_space, whole_take, empty_take}
-use Rattle.ax_names.proofs.Added.{flat_append, flat_nil, last_white, last_white-false, last_white-append, last_white-flat, last_white-empty, ink_first, blank_flat, whole_flat}
+use Rattle.ax_names.specs.Pieces.{Opening, Phrase, is_empty, begins_white, ends_white, is_longer, opening_of, piece_of, followed, and_more, space_behind, spaced, joined, name_of, has_no_words, has_nothing}
+use Rattle.ax_names.proofs.Openings.{with_words, take_nil, empty_take, followed_opening, followed_cut, count_nil}
+use Rattle.ax_names.proofs.Added.{flat_append, flat_nil, last_white, last_white-false, last_white-append, last_white-flat, last_white-empty, ink_first, blank_flat}
 
 pub empty_cut : (x : Chars) → is_empty (cut x) ≡ is_empty x
 empty_cut x = empty_take 511 x
 
-pub cut_twice : (x : Chars) → cut (cut x) ≡ cut x
-cut_twice x = take_twice x 512 512 (omega arith)
-
--- words may be cut before they are put beside others
-
-cut_after : (a b : Chars) (white : Bool) → cut (beside a white (cut b)) ≡ cut (beside a white b)
-cut_after a b white =
-    ap (λ (e : Bool). cut (a ++ (space_behind a (white && not e) ++ cut b))) (empty_cut b)
-    ∙ ap cut (sym (append_assoc a (space_behind a (white && not (is_empty b))) (cut b)))
-    ∙ take_last (a ++ space_behind a (white && not (is_empty b))) b 512 512 (omega arith)
-    ∙ ap cut (append_assoc a (space_behind a (white && not (is_empty b))) b)
-
-cut_before : (a b : Chars) (white : Bool) → is_whole b ≡ true → cut (beside (cut a) white b) ≡ cut (beside a white b)
-cut_before a b white whole =
-    ap (λ (e : Bool). cut (cut a ++ (cond (not e && (white && not (is_empty b))) (32 ∷ []) [] ++ b))) (empty_cut a)
-    ∙ take_first a (space_behind a (white && not (is_empty b)) ++ b) (whole_space (not (is_empty a) && (white && not (is_empty b))) b whole) 512
-
-pub cut_beside : (a b : Chars) (white : Bool) → is_whole b ≡ true → cut (beside (cut a) white (cut b)) ≡ cut (beside a white b)
-cut_beside a b white whole = cut_before a (cut b) white (whole_take 512 b whole) ∙ cut_after a b white
+-- flat words behind others may be cut, if it is known whether more of them follow
+spaced_cut : (o : Opening) (white : Bool) (t : Chars) → and_more (followed o (spaced o.words white (cut t))) (is_longer t) ≡ followed o (spaced o.words white t)
+spaced_cut o white t =
+    ap (λ (e : Bool). and_more (followed o (space_behind o.words (white && not e) ++ cut t)) (is_longer t)) (empty_cut t)
+    ∙ followed_cut o (space_behind o.words (white && not (is_empty t))) t
 
 -- the three parts
 
-joined-words : (a b : Chars) → IsUtf8 b → cut (flat (a ++ b)) ≡ cut (beside (cut (flat a)) (ends_white a || begins_white b) (cut (flat b)))
-joined-words a b utf8 = ap cut (flat_append a b) ∙ sym (cut_beside (flat a) (flat b) (ends_white a || begins_white b) (whole_flat b utf8))
+joined-opening : (a b : Chars)
+    → opening_of (flat (a ++ b)) ≡ and_more (followed (opening_of (flat a)) (spaced (cut (flat a)) (ends_white a || begins_white b) (cut (flat b)))) (is_longer (flat b))
+joined-opening a b =
+    let white : Bool = ends_white a || begins_white b in
+    ap opening_of (flat_append a b) ∙ sym (followed_opening (flat a) (spaced (flat a) white (flat b)))
+    ∙ ap (λ (e : Bool). followed (opening_of (flat a)) (cond (not e && (white && not (is_empty (flat b)))) (32 ∷ []) [] ++ flat b)) (sym (empty_cut (flat a)))
+    ∙ sym (spaced_cut (opening_of (flat a)) white (flat b))
 
 or_and : (s r none : Bool) → (s ≡ false → none ≡ false) → s ≡ (s || (none && r))
 or_and true r none h = refl
@@ -49,8 +40,8 @@ joined-ends a b =
     ∙ ap (λ (e : Bool). ends_white b || (e && ends_white a)) (sym (empty_cut (flat b)))
 
 -- what is kept of the parts tells what is kept of the whole
-pub pieces_join : (a b : Chars) → IsUtf8 b → piece_of (a ++ b) ≡ joined (piece_of a) (piece_of b)
-pieces_join a b utf8 = λ i. record { words = joined-words a b utf8 i; starts = joined-starts a b i; ends = joined-ends a b i }
+pub pieces_join : (a b : Chars) → piece_of (a ++ b) ≡ joined (piece_of a) (piece_of b)
+pieces_join a b = λ i. record { opening = joined-opening a b i; starts = joined-starts a b i; ends = joined-ends a b i }
 
 -- what is kept tells whether the text was blank, and whether it was empty
 
@@ -71,32 +62,44 @@ nothing_kept (c ∷ cs) = go (is_white c) refl
 
 -- a text that is put in
 
-abbrev pub phrase : Chars → Bool → Bool → Phrase
-phrase words starts ends = record { words = words; starts = starts; ends = ends }
+abbrev pub phrase : Opening → Bool → Bool → Phrase
+phrase opening starts ends = record { opening = opening; starts = starts; ends = ends }
 
-pub pushed : (words : Chars) (starts ends : Bool) (t new : Chars) (new_starts new_ends : Bool)
-    → new ≡ cut (beside words (ends || begins_white t) (flat t))
-    → new_starts ≡ (starts || (is_empty words && begins_white t))
+pub pushed : (old : Opening) (starts ends : Bool) (t : Chars) (new : Opening) (new_starts new_ends : Bool)
+    → new ≡ followed old (spaced old.words (ends || begins_white t) (flat t))
+    → new_starts ≡ (starts || (is_empty old.words && begins_white t))
     → new_ends ≡ (ends_white t || (is_empty t && ends))
-    → phrase new new_starts new_ends ≡ joined (phrase words starts ends) (piece_of t)
-pushed words starts ends t new new_starts new_ends p q r = λ i. record { words = words_is i; starts = q i; ends = ends_is i }
+    → phrase new new_starts new_ends ≡ joined (phrase old starts ends) (piece_of t)
+pushed old starts ends t new new_starts new_ends p q r = λ i. record { opening = opening_is i; starts = q i; ends = ends_is i }
   where
-    words_is : new ≡ cut (beside words (ends || begins_white t) (cut (flat t)))
-    words_is = p ∙ sym (cut_after words (flat t) (ends || begins_white t))
+    opening_is : new ≡ and_more (followed old (spaced old.words (ends || begins_white t) (cut (flat t)))) (is_longer (flat t))
+    opening_is = p ∙ sym (spaced_cut old (ends || begins_white t) (flat t))
 
     ends_is : new_ends ≡ (ends_white t || (is_empty (cut (flat t)) && ends))
     ends_is = r ∙ sym (last_white-empty t ends) ∙ last_white-flat t ends ∙ ap (λ (e : Bool). ends_white t || (e && ends)) (sym (empty_cut (flat t)))
 
--- the piece of the empty text
-pub empty_piece : (words : Chars) → words ≡ [] → phrase words false false ≡ piece_of []
-empty_piece words is = λ i. record { words = words_is i; starts = false; ends = false }
+-- a piece that is put behind another
+pub appended : (old : Opening) (starts ends : Bool) (other : Phrase) (mid new : Opening) (new_starts new_ends : Bool)
+    → mid ≡ followed old (spaced old.words (ends || other.starts) other.opening.words)
+    → new ≡ and_more mid other.opening.more
+    → new_starts ≡ (starts || (is_empty old.words && other.starts))
+    → new_ends ≡ (other.ends || (is_empty other.opening.words && ends))
+    → phrase new new_starts new_ends ≡ joined (phrase old starts ends) other
+appended old starts ends other mid new new_starts new_ends p more q r = λ i. record { opening = opening_is i; starts = q i; ends = r i }
   where
-    words_is : words ≡ cut (flat [])
-    words_is = is ∙ sym (ap cut flat_nil ∙ take_nil 512)
+    opening_is : new ≡ and_more (followed old (spaced old.words (ends || other.starts) other.opening.words)) other.opening.more
+    opening_is = more ∙ ap (λ (o : Opening). and_more o other.opening.more) p
+
+-- the piece of the empty text
+pub empty_piece : (o : Opening) → o ≡ with_words [] false → phrase o false false ≡ piece_of []
+empty_piece o is = λ i. record { opening = opening_is i; starts = false; ends = false }
+  where
+    opening_is : o ≡ opening_of (flat [])
+    opening_is = is ∙ (λ i. record { words = sym (take_nil 512) i; more = ap (λ (k : ℕ). nat_lt 512 k) (sym count_nil) i }) ∙ ap opening_of (sym flat_nil)
 
 -- the piece of one text
-pub only_piece : (t : Chars) (p : Phrase) → IsUtf8 t → p ≡ joined (piece_of []) (piece_of t) → p ≡ piece_of t
-only_piece t p utf8 is = is ∙ sym (pieces_join [] t utf8)
+pub only_piece : (t : Chars) (p : Phrase) → p ≡ joined (piece_of []) (piece_of t) → p ≡ piece_of t
+only_piece t p is = is ∙ sym (pieces_join [] t)
 
 -- the ends of a text
 
@@ -120,11 +123,3 @@ pub ends_nowhere : (t : Chars) → slice_get t (length t - 1) ≡ None → false
 ends_nowhere [] is = refl
 ends_nowhere (c ∷ []) is = absurd (cc)
 ends_nowhere (c ∷ d ∷ ds) is = ends_nowhere (d ∷ ds) (sym (last_of c d ds) ∙ is)
-
--- a piece that is put behind another
-pub appended : (words : Chars) (starts ends : Bool) (other : Phrase) (new : Chars) (new_starts new_ends : Bool)
-    → new ≡ cut (beside words (ends || other.starts) other.words)
-    → new_starts ≡ (starts || (is_empty words && other.starts))
-    → new_ends ≡ (other.ends || (is_empty other.words && ends))
-    → phrase new new_starts new_ends ≡ joined (phrase words starts ends) other
-appended words starts ends other new new_starts new_ends p q r = λ i. record { words = p i; starts = q i; ends = r i }

@@ -1,5 +1,5 @@
 mod Rows
-pub mod Wholes
+pub mod Openings
 pub mod Added
 pub mod Joining
 pub mod Putting

@@ -2,7 +2,6 @@
 #![tactic(auto)]
 
 ghost use Rattle.std.specs.Prelude.{◌≡◌, ◌++◌};
-ghost use Rattle.std.specs.Str.{IsUtf8};
 ghost use Rattle.ax_base.specs.Characters.{Chars, is_blank, flat, cut};
 ghost use Rattle.ax_names.specs.Pieces.{is_empty, piece_of, joined, flattened, name_of, has_no_words, has_nothing};
 
@@ -17,7 +16,7 @@ pub use pieces::Piece;
 ///
 /// It is a law of the definitions, which this call carries.
 pub fn pieces_tell()
-    ensures together { (a b : Chars) → IsUtf8 b → piece_of (a ++ b) ≡ joined (piece_of a) (piece_of b) }
+    ensures together { (a b : Chars) → piece_of (a ++ b) ≡ joined (piece_of a) (piece_of b) }
     ensures again { (t : Chars) → piece_of (flat t) ≡ flattened (piece_of t) }
     ensures name { (t : Chars) → name_of (piece_of t) ≡ cut (flat t) }
     ensures blank { (t : Chars) → has_no_words (piece_of t) ≡ is_blank t }

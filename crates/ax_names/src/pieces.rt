@@ -8,7 +8,7 @@ use std::alloc::Global;
 use std::marker::Model;
 
 /// What is kept of a text that is joined from many, so that the name that it makes is flat and cut, and no more of it stays in
-/// memory: the first 512 characters of the flat text, and whether the text began and ended with white space.
+/// memory: the first 512 characters of the flat text, whether more follow, and whether the text began and ended with white space.
 ///
 /// Where a call has no memory left, the piece is of no more use.
 #[derive(Drop)]
@@ -23,7 +23,7 @@ impl Model for Piece {
 
     ghost Value = { Phrase };
 
-    ghost view = { λ p. record { words = p.words; starts = p.starts; ends = p.ends } };
+    ghost view = { λ p. record { opening = p.words; starts = p.starts; ends = p.ends } };
 }
 
 impl Piece {
@@ -69,6 +69,7 @@ impl Piece {
         let blank = other.words.is_empty();
         let white = self.ends || other.starts;
         self.words.put_words(white, other.words.as_str())?;
+        self.words.note_more(other.words.has_more());
         self.starts = self.starts || (bare && other.starts);
         self.ends = other.ends || (blank && self.ends);
         Ok(())

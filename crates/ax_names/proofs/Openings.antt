@@ -1,10 +1,11 @@
--- The first characters of texts that are put together.
-use Rattle.std.proofs.Common.{◌≡◌, ℕ, zero, suc, ◌+◌, ◌-◌, ◌/◌, ◌<◌, ◌≤◌, List, [], ◌∷◌, ◌++◌, Bool, true, false, cond, refl, sym, ap, ◌∙◌, arith, ltb, eqb}
+-- Openings of texts that are put together.
+use Rattle.std.proofs.Common.{◌≡◌, not, ◌||◌, append_assoc, append-nil, ℕ, zero, suc, ◌+◌, ◌-◌, ◌/◌, ◌<◌, ◌≤◌, List, [], ◌∷◌, ◌++◌, Bool, true, false, cond, refl, sym, ap, ◌∙◌, arith, ltb, eqb}
+use Rattle.std.specs.Prelude.{encode_utf8}
 use Rattle.std.specs.Fmt.{take_chars, char_count, is_char_start}
 use Rattle.std.proofs.lemmas.Bool.Decides.{nat_tests}
 use lib.Utf8.{encode, encodes, next}
-use Rattle.ax_base.specs.Characters.{Chars}
-use Rattle.ax_names.specs.Pieces.{is_empty}
+use Rattle.ax_base.specs.Characters.{Chars, cut}
+use Rattle.ax_names.specs.Pieces.{Opening, is_empty, is_longer, opening_of, followed, and_more}
 
 -- whether a text does not begin inside a character
 abbrev pub is_whole : Chars → Bool
@@ -69,7 +70,7 @@ take_twice-step true b y e ih (suc m) (suc n) le =
     ap (take_chars (suc m)) (take_start n b y e) ∙ take_start m b (take_chars n y) e ∙ ap (λ l. b ∷ l) (ih m n (omega arith)) ∙ sym (take_start m b y e)
 take_twice-step false b y e ih m n le = ap (take_chars m) (take_on n b y e) ∙ take_on m b (take_chars n y) e ∙ ap (λ l. b ∷ l) (ih m n le) ∙ sym (take_on m b y e)
 
-pub take_twice : (y : Chars) (m n : ℕ) → m ≤ n → take_chars m (take_chars n y) ≡ take_chars m y
+take_twice : (y : Chars) (m n : ℕ) → m ≤ n → take_chars m (take_chars n y) ≡ take_chars m y
 take_twice [] m n le = ap (take_chars m) (take_nil n)
 take_twice (b ∷ y) m n le = take_twice-step (is_char_start b) b y refl (take_twice y) m n le
 
@@ -81,23 +82,21 @@ take_last-step true b x y e ih zero n le = take_none b (x ++ take_chars n y) e �
 take_last-step true b x y e ih (suc m) n le = take_start m b (x ++ take_chars n y) e ∙ ap (λ l. b ∷ l) (ih m n (omega arith)) ∙ sym (take_start m b (x ++ y) e)
 take_last-step false b x y e ih m n le = take_on m b (x ++ take_chars n y) e ∙ ap (λ l. b ∷ l) (ih m n le) ∙ sym (take_on m b (x ++ y) e)
 
-pub take_last : (x y : Chars) (m n : ℕ) → m ≤ n → take_chars m (x ++ take_chars n y) ≡ take_chars m (x ++ y)
+take_last : (x y : Chars) (m n : ℕ) → m ≤ n → take_chars m (x ++ take_chars n y) ≡ take_chars m (x ++ y)
 take_last [] y m n le = take_twice y m n le
 take_last (b ∷ x) y m n le = take_last-step (is_char_start b) b x y refl (take_last x y) m n le
 
--- what stands first may be cut first, where a character begins behind it
+-- behind a text that has more characters nothing is taken
 
-take_first-step : (s : Bool) (b : ℕ) (x y : Chars) → is_char_start b ≡ s → is_whole y ≡ true → ((n : ℕ) → take_chars n (take_chars n x ++ y) ≡ take_chars n (x ++ y))
-    → (n : ℕ) → take_chars n (take_chars n (b ∷ x) ++ y) ≡ take_chars n (b ∷ (x ++ y))
-take_first-step true b x y e whole ih zero = ap (λ l. take_chars 0 (l ++ y)) (take_none b x e) ∙ take_none_whole y whole ∙ sym (take_none b (x ++ y) e)
-take_first-step true b x y e whole ih (suc n) =
-    ap (λ l. take_chars (suc n) (l ++ y)) (take_start n b x e) ∙ take_start n b (take_chars n x ++ y) e ∙ ap (λ l. b ∷ l) (ih n) ∙ sym (take_start n b (x ++ y) e)
-take_first-step false b x y e whole ih n =
-    ap (λ l. take_chars n (l ++ y)) (take_on n b x e) ∙ take_on n b (take_chars n x ++ y) e ∙ ap (λ l. b ∷ l) (ih n) ∙ sym (take_on n b (x ++ y) e)
+take_more-step : (s : Bool) (b : ℕ) (x y : Chars) → is_char_start b ≡ s → ((n : ℕ) → n < char_count x → take_chars n (x ++ y) ≡ take_chars n x)
+    → (n : ℕ) → n < char_count (b ∷ x) → take_chars n (b ∷ (x ++ y)) ≡ take_chars n (b ∷ x)
+take_more-step true b x y e ih zero more = take_none b (x ++ y) e ∙ sym (take_none b x e)
+take_more-step true b x y e ih (suc n) more = take_start n b (x ++ y) e ∙ ap (λ l. b ∷ l) (ih n (let k = count_start b x e in omega arith)) ∙ sym (take_start n b x e)
+take_more-step false b x y e ih n more = take_on n b (x ++ y) e ∙ ap (λ l. b ∷ l) (ih n (let k = count_on b x e in omega arith)) ∙ sym (take_on n b x e)
 
-pub take_first : (x y : Chars) → is_whole y ≡ true → (n : ℕ) → take_chars n (take_chars n x ++ y) ≡ take_chars n (x ++ y)
-take_first [] y whole n = ap (λ l. take_chars n (l ++ y)) (take_nil n)
-take_first (b ∷ x) y whole n = take_first-step (is_char_start b) b x y refl whole (take_first x y whole) n
+take_more : (x y : Chars) (n : ℕ) → n < char_count x → take_chars n (x ++ y) ≡ take_chars n x
+take_more [] y n more = absurd (let k = count_nil in omega arith)
+take_more (b ∷ x) y n more = take_more-step (is_char_start b) b x y refl (take_more x y) n more
 
 -- a text that has no more characters is kept whole
 
@@ -118,7 +117,7 @@ take_full-step true b x y e ih zero is = absurd (let k = count_start b x e in om
 take_full-step true b x y e ih (suc n) is = take_start n b (x ++ y) e ∙ ap (λ l. b ∷ l) (ih n (let k = count_start b x e in omega arith))
 take_full-step false b x y e ih n is = take_on n b (x ++ y) e ∙ ap (λ l. b ∷ l) (ih n (let k = count_on b x e in omega arith))
 
-pub take_full : (x y : Chars) → is_whole y ≡ true → (n : ℕ) → char_count x ≡ n → take_chars n (x ++ y) ≡ x
+take_full : (x y : Chars) → is_whole y ≡ true → (n : ℕ) → char_count x ≡ n → take_chars n (x ++ y) ≡ x
 take_full [] y whole n is = ap (λ k. take_chars k y) (sym is ∙ count_nil) ∙ take_none_whole y whole
 take_full (b ∷ x) y whole n is = take_full-step (is_char_start b) b x y refl (take_full x y whole) n is
 
@@ -151,19 +150,7 @@ count_encode c = go (ltb c 128) (ltb c 2048) (ltb c 65536) refl
 pub count_push : (x : Chars) (c : ℕ) → char_count (x ++ encode c) ≡ char_count x + 1
 count_push x c = count_append x (encode c) ∙ ap (λ k. char_count x + k) (count_encode c)
 
--- where characters begin
-
-pub whole_encode : (c : ℕ) (rest : Chars) → is_whole (encode c ++ rest) ≡ true
-unfolding encode
-whole_encode c rest = go (ltb c 128) (ltb c 2048) (ltb c 65536) refl
-  where
-    go : (x y z : Bool) → ltb c 128 ≡ x
-        → is_whole (cond x (c ∷ []) (cond y ((192 + c / 64) ∷ next c ∷ []) (cond z ((224 + c / 4096) ∷ next (c / 64) ∷ next c ∷ []) ((240 + c / 262144) ∷ next (c / 4096) ∷ next (c / 64) ∷ next c ∷ []))) ++ rest) ≡ true
-    go true y z low = starts_low c (grind (arith, nat_tests))
-    go false true z low = starts_high (192 + c / 64) (omega arith)
-    go false false true low = starts_high (224 + c / 4096) (omega arith)
-    go false false false low = starts_high (240 + c / 262144) (omega arith)
-
+-- a character begins at its first byte
 pub whole_alone : (c : ℕ) → is_whole (encode c) ≡ true
 unfolding encode
 whole_alone c = go (ltb c 128) (ltb c 2048) (ltb c 65536) refl
@@ -174,21 +161,6 @@ whole_alone c = go (ltb c 128) (ltb c 2048) (ltb c 65536) refl
     go false true z low = starts_high (192 + c / 64) (omega arith)
     go false false true low = starts_high (224 + c / 4096) (omega arith)
     go false false false low = starts_high (240 + c / 262144) (omega arith)
-
-pub whole_encodes : (cs : List ℕ) → is_whole (encodes cs) ≡ true
-whole_encodes [] = refl
-whole_encodes (c ∷ cs) = whole_encode c (encodes cs)
-
--- a space that may stand before a text
-pub whole_space : (s : Bool) (y : Chars) → is_whole y ≡ true → is_whole (cond s (32 ∷ []) [] ++ y) ≡ true
-whole_space true y whole = refl
-whole_space false y whole = whole
-
--- the front of a text begins as the text does
-pub whole_take : (n : ℕ) (y : Chars) → is_whole y ≡ true → is_whole (take_chars n y) ≡ true
-whole_take n [] whole = ap is_whole (take_nil n)
-whole_take zero (b ∷ bs) whole = ap is_whole (take_none b bs whole)
-whole_take (suc n) (b ∷ bs) whole = ap is_whole (take_start n b bs whole) ∙ whole
 
 -- the front of a text is empty where the text is
 pub empty_take : (n : ℕ) (x : Chars) → is_empty (take_chars (suc n) x) ≡ is_empty x
@@ -211,3 +183,101 @@ some_last [] c = go (ltb c 128) (ltb c 2048) (ltb c 65536)
     go false true z = refl
     go false false true = refl
     go false false false = refl
+
+-- openings
+
+abbrev pub with_words : Chars → Bool → Opening
+with_words words more = record { words = words; more = more }
+
+longer_is : (x : Chars) → is_longer x ≡ true → 512 < char_count x
+longer_is x e = grind (arith, nat_tests)
+
+shorter_is : (x : Chars) → is_longer x ≡ false → char_count x ≤ 512
+shorter_is x e = grind (arith, nat_tests)
+
+is_longer-true : (x : Chars) → 512 < char_count x → is_longer x ≡ true
+is_longer-true x h = grind (arith, nat_tests)
+
+is_longer-false : (x : Chars) → char_count x ≤ 512 → is_longer x ≡ false
+is_longer-false x h = grind (arith, nat_tests)
+
+kept : (x : Chars) → is_longer x ≡ false → cut x ≡ x
+kept x e = take_all x 512 (shorter_is x e)
+
+longer_first : (x y : Chars) → is_longer x ≡ true → is_longer (x ++ y) ≡ true
+longer_first x y e = is_longer-true (x ++ y) (let h = longer_is x e in let k = count_append x y in omega arith)
+
+longer_last : (x y : Chars) → is_longer y ≡ true → is_longer (x ++ y) ≡ true
+longer_last x y e = is_longer-true (x ++ y) (let h = longer_is y e in let k = count_append x y in omega arith)
+
+or_true : (x : Bool) → (x || true) ≡ true
+or_true true = refl
+or_true false = refl
+
+or_false : (x : Bool) → (x || false) ≡ x
+or_false true = refl
+or_false false = refl
+
+-- the opening tells all that what follows may change
+pub followed_opening : (x y : Chars) → followed (opening_of x) y ≡ opening_of (x ++ y)
+followed_opening x y = go (is_longer x) refl
+  where
+    go : (m : Bool) → is_longer x ≡ m → with_words (cond m (cut x) (cut (cut x ++ y))) (m || is_longer (cut x ++ y)) ≡ opening_of (x ++ y)
+    go true e = λ i. record { words = sym (take_more x y 512 (longer_is x e)) i; more = sym (longer_first x y e) i }
+    go false e = ap (λ (l : Chars). opening_of (l ++ y)) (kept x e)
+
+followed_twice-at : (w : Chars) (m : Bool) (x y : Chars) → followed (followed (with_words w m) x) y ≡ followed (with_words w m) (x ++ y)
+followed_twice-at w true x y = refl
+followed_twice-at w false x y = followed_opening (w ++ x) y ∙ ap opening_of (append_assoc w x y)
+
+-- what follows may come in two parts
+pub followed_twice : (o : Opening) (x y : Chars) → followed (followed o x) y ≡ followed o (x ++ y)
+followed_twice o x y = followed_twice-at o.words o.more x y
+
+followed_cut-at : (w : Chars) (m : Bool) (s y : Chars) → and_more (followed (with_words w m) (s ++ cut y)) (is_longer y) ≡ followed (with_words w m) (s ++ y)
+followed_cut-at w true s y = refl
+followed_cut-at w false s y = λ i. record { words = words_are i; more = more_is (is_longer y) refl i }
+  where
+    words_are : cut (w ++ (s ++ cut y)) ≡ cut (w ++ (s ++ y))
+    words_are = ap cut (sym (append_assoc w s (cut y))) ∙ take_last (w ++ s) y 512 512 (omega arith) ∙ ap cut (append_assoc w s y)
+
+    more_is : (m : Bool) → is_longer y ≡ m → (is_longer (w ++ (s ++ cut y)) || m) ≡ is_longer (w ++ (s ++ y))
+    more_is true e = or_true (is_longer (w ++ (s ++ cut y))) ∙ sym (ap is_longer (sym (append_assoc w s y)) ∙ longer_last (w ++ s) y e)
+    more_is false e = or_false (is_longer (w ++ (s ++ cut y))) ∙ ap (λ (l : Chars). is_longer (w ++ (s ++ l))) (kept y e)
+
+-- what follows may be cut, if it is known whether more of it follows
+pub followed_cut : (o : Opening) (s y : Chars) → and_more (followed o (s ++ cut y)) (is_longer y) ≡ followed o (s ++ y)
+followed_cut o s y = followed_cut-at o.words o.more s y
+
+pub followed_nil : (w : Chars) (m : Bool) → char_count w ≤ 512 → with_words w m ≡ followed (with_words w m) []
+followed_nil w true most = refl
+followed_nil w false most = λ i. record { words = words_are i; more = more_is i }
+  where
+    words_are : w ≡ cut (w ++ [])
+    words_are = sym (take_all w 512 most) ∙ ap cut (sym (append-nil w))
+
+    more_is : false ≡ is_longer (w ++ [])
+    more_is = sym (is_longer-false w most) ∙ ap is_longer (sym (append-nil w))
+
+-- a character is one too many
+pub put_full : (w : Chars) (c : ℕ) → char_count w ≡ 512 → with_words w true ≡ followed (with_words w false) (encode_utf8 c)
+put_full w c full = λ i. record { words = words_are i; more = more_is i }
+  where
+    words_are : w ≡ cut (w ++ encode c)
+    words_are = sym (take_full w (encode c) (whole_alone c) 512 full)
+
+    more_is : true ≡ is_longer (w ++ encode c)
+    more_is = sym (is_longer-true (w ++ encode c) (let k = count_push w c in omega arith))
+
+-- a character fits
+pub put_fits : (w : Chars) (c : ℕ) → char_count w < 512 → with_words (w ++ encode_utf8 c) false ≡ followed (with_words w false) (encode_utf8 c)
+put_fits w c room = λ i. record { words = words_are i; more = more_is i }
+  where
+    fits : char_count (w ++ encode c) ≤ 512
+    fits = let k = count_push w c in omega arith
+
+    words_are : w ++ encode c ≡ cut (w ++ encode c)
+    words_are = sym (take_all (w ++ encode c) 512 fits)
+
+    more_is : false ≡ is_longer (w ++ encode c)
+    more_is = sym (is_longer-false (w ++ encode c) fits)
