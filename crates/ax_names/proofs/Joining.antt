@@ -1,10 +1,9 @@
 -- What is kept of texts that are put together.
 use Rattle.std.proofs.Common.{◌≡◌, ℕ, suc, ◌-◌, List, [], ◌∷◌, ◌++◌, length, Bool, true, false, cond, not, ◌&&◌, ◌||◌, Option, Some, None, refl, sym, ap, ◌∙◌, arith}
-use Rattle.std.specs.Prelude.{nat_lt}
 use Rattle.std.specs.List.{slice_get}
 use Rattle.ax_base.specs.Characters.{Chars, is_white, is_blank, flat, cut}
 use Rattle.ax_names.specs.Pieces.{Opening, Phrase, is_empty, begins_white, ends_white, is_longer, opening_of, piece_of, followed, and_more, space_behind, spaced, joined, name_of, has_no_words, has_nothing}
-use Rattle.ax_names.proofs.Openings.{with_words, take_nil, empty_take, followed_opening, followed_cut, count_nil}
+use Rattle.ax_names.proofs.Openings.{empty_take, followed_opening, followed_cut}
 use Rattle.ax_names.proofs.Added.{flat_append, flat_nil, last_white, last_white-false, last_white-append, last_white-flat, last_white-empty, ink_first, blank_flat}
 
 pub empty_cut : (x : Chars) → is_empty (cut x) ≡ is_empty x
@@ -91,11 +90,11 @@ appended old starts ends other mid new new_starts new_ends p more q r = λ i. re
     opening_is = more ∙ ap (λ (o : Opening). and_more o other.opening.more) p
 
 -- the piece of the empty text
-pub empty_piece : (o : Opening) → o ≡ with_words [] false → phrase o false false ≡ piece_of []
+pub empty_piece : (o : Opening) → o ≡ opening_of [] → phrase o false false ≡ piece_of []
 empty_piece o is = λ i. record { opening = opening_is i; starts = false; ends = false }
   where
     opening_is : o ≡ opening_of (flat [])
-    opening_is = is ∙ (λ i. record { words = sym (take_nil 512) i; more = ap (λ (k : ℕ). nat_lt 512 k) (sym count_nil) i }) ∙ ap opening_of (sym flat_nil)
+    opening_is = is ∙ ap opening_of (sym flat_nil)
 
 -- the piece of one text
 pub only_piece : (t : Chars) (p : Phrase) → p ≡ joined (piece_of []) (piece_of t) → p ≡ piece_of t

@@ -1,5 +1,5 @@
 -- Openings of texts that are put together.
-use Rattle.std.proofs.Common.{◌≡◌, not, ◌||◌, append_assoc, append-nil, ℕ, zero, suc, ◌+◌, ◌-◌, ◌/◌, ◌<◌, ◌≤◌, List, [], ◌∷◌, ◌++◌, Bool, true, false, cond, refl, sym, ap, ◌∙◌, arith, ltb, eqb}
+use Rattle.std.proofs.Common.{◌≡◌, not, ◌||◌, append_assoc, append-nil, ℕ, zero, suc, ◌+◌, ◌-◌, ◌/◌, ◌<◌, ◌≤◌, List, [], ◌∷◌, ◌++◌, Bool, true, false, cond, refl, sym, ap, subst, ◌∙◌, arith, ltb, eqb}
 use Rattle.std.specs.Prelude.{encode_utf8}
 use Rattle.std.specs.Fmt.{take_chars, char_count, is_char_start}
 use Rattle.std.proofs.lemmas.Bool.Decides.{nat_tests}
@@ -42,7 +42,7 @@ pub take_nil : (n : ℕ) → take_chars n [] ≡ []
 unfolding take_chars
 take_nil n = refl
 
-count_nil : char_count [] ≡ 0
+pub count_nil : char_count [] ≡ 0
 unfolding char_count
 count_nil = refl
 
@@ -281,3 +281,28 @@ put_fits w c room = λ i. record { words = words_are i; more = more_is i }
 
     more_is : false ≡ is_longer (w ++ encode c)
     more_is = sym (is_longer-false (w ++ encode c) fits)
+
+-- the same of a value whose words and mark are known
+
+pub stays_nil : (o : Opening) (w : Chars) (m : Bool) → with_words w m ≡ o → char_count w ≤ 512 → o ≡ followed o []
+stays_nil o w m view most = subst (λ (p : Opening). p ≡ followed p []) view (followed_nil w m most)
+
+marked_stays : (w : Chars) (m : Bool) (x : Chars) → m ≡ true → with_words w m ≡ followed (with_words w m) x
+marked_stays w true x e = refl
+marked_stays w false x e = absurd (cc)
+
+pub stays_marked : (o : Opening) (x : Chars) → o.more ≡ true → o ≡ followed o x
+stays_marked o x e = marked_stays o.words o.more x e
+
+pub puts_none : (o : Opening) (w : Chars) (m : Bool) (c : ℕ) → with_words w m ≡ o → m ≡ false → char_count w ≡ 512 → with_words w true ≡ followed o (encode_utf8 c)
+puts_none o w m c view unmarked full = put_full w c full ∙ ap (λ (p : Opening). followed p (encode c)) ((λ i. with_words w (sym unmarked i)) ∙ view)
+
+pub puts_one : (o : Opening) (w new : Chars) (m : Bool) (c : ℕ) → with_words w m ≡ o → m ≡ false → char_count w < 512 → new ≡ w ++ encode_utf8 c → with_words new m ≡ followed o (encode_utf8 c)
+puts_one o w new m c view unmarked room is =
+    (λ i. with_words (is i) (unmarked i)) ∙ put_fits w c room ∙ ap (λ (p : Opening). followed p (encode c)) ((λ i. with_words w (sym unmarked i)) ∙ view)
+
+pub opening_nil : with_words [] false ≡ opening_of []
+opening_nil = λ i. record { words = sym (take_nil 512) i; more = more_is i }
+  where
+    more_is : false ≡ is_longer []
+    more_is = sym (is_longer-false [] (let k = count_nil in omega arith))

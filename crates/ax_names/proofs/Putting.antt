@@ -2,7 +2,6 @@
 use Rattle.std.proofs.Common.{◌≡◌, ℕ, ◌+◌, ◌≤◌, ◌<◌, List, [], ◌∷◌, ◌++◌, length, get_or, drop, map, Bool, true, false, cond, not, ◌&&◌, ◌||◌, ◌==◌, refl, sym, ap, ◌∙◌, arith, append_assoc, append-nil}
 use Rattle.std.specs.Prelude.{encode_utf8}
 use Rattle.std.specs.Str.{IsUtf8, chars}
-use Rattle.std.specs.Fmt.{char_count}
 use Rattle.std.proofs.lemmas.Str.{encodes-chars}
 use Rattle.std.proofs.lemmas.List.{drop_more, at_drop_all, length_push}
 use Rattle.std.proofs.lemmas.Bool.Decides.{nat_tests}
@@ -10,7 +9,7 @@ use lib.Utf8.{encode, encodes}
 use Rattle.ax_base.specs.Characters.{Chars, is_white, flat, cut}
 use Rattle.ax_base.proofs.CutCharacters.{same_items, encodes-push}
 use Rattle.ax_names.specs.Pieces.{Opening, is_empty, begins_white, followed, space_behind, spaced}
-use Rattle.ax_names.proofs.Openings.{with_words, followed_twice, followed_nil, some_last}
+use Rattle.ax_names.proofs.Openings.{with_words, followed_twice, some_last}
 use Rattle.ax_names.proofs.Added.{space, added, spaced_added, white_added, ink_added}
 use Rattle.ax_names.proofs.Joining.{empty_cut}
 
@@ -20,16 +19,16 @@ empty_length (c ∷ cs) = grind (arith, nat_tests)
 
 -- the space before a word
 
-pub gap_none : (w : Chars) (m white : Bool) → is_empty w ≡ true → char_count w ≤ 512 → with_words w m ≡ followed (with_words w m) (space_behind w white)
-gap_none w m white none most = followed_nil w m most ∙ ap (λ (e : Bool). followed (with_words w m) (cond (not e && white) (32 ∷ []) [])) (sym none)
+pub gap_none : (o : Opening) (white : Bool) → is_empty o.words ≡ true → o ≡ followed o [] → o ≡ followed o (space_behind o.words white)
+gap_none o white none stays = stays ∙ ap (λ (e : Bool). followed o (cond (not e && white) (32 ∷ []) [])) (sym none)
 
 and_false : (x : Bool) → (x && false) ≡ false
 and_false true = refl
 and_false false = refl
 
-pub gap_off : (w : Chars) (m white : Bool) → white ≡ false → char_count w ≤ 512 → with_words w m ≡ followed (with_words w m) (space_behind w white)
-gap_off w m white off most =
-    followed_nil w m most ∙ ap (λ (e : Bool). followed (with_words w m) (cond e (32 ∷ []) [])) (sym (ap (λ (v : Bool). not (is_empty w) && v) off ∙ and_false (not (is_empty w))))
+pub gap_off : (o : Opening) (white : Bool) → white ≡ false → o ≡ followed o [] → o ≡ followed o (space_behind o.words white)
+gap_off o white off stays =
+    stays ∙ ap (λ (e : Bool). followed o (cond e (32 ∷ []) [])) (sym (ap (λ (v : Bool). not (is_empty o.words) && v) off ∙ and_false (not (is_empty o.words))))
 
 space_char : encode 32 ≡ 32 ∷ []
 unfolding encode
@@ -105,10 +104,10 @@ pub record IsFlatSoFar (start : Opening) (before : Bool) (t : Chars) (out : Open
   pub stays : followed out [] ≡ out
   pub comes : after out white (encodes (left t yielded)) ≡ followed start (spaced start.words (before || begins_white t) (flat t))
 
-pub flat_start : (w : Chars) (m white : Bool) (t : Chars) → IsUtf8 t → char_count w ≤ 512 → IsFlatSoFar (with_words w m) white t (with_words w m) white []
-flat_start w m white t utf8 most = record {
-  stays = sym (followed_nil w m most);
-  comes = ap (after (with_words w m) white) (encodes-chars t utf8) ∙ ap (followed (with_words w m)) (spaced_added w white t);
+pub flat_start : (o : Opening) (white : Bool) (t : Chars) → IsUtf8 t → o ≡ followed o [] → IsFlatSoFar o white t o white []
+flat_start o white t utf8 stays = record {
+  stays = sym stays;
+  comes = ap (after o white) (encodes-chars t utf8) ∙ ap (followed o) (spaced_added o.words white t);
 }
 
 module _ (start : Opening) (before : Bool) (t : Chars) (out : Opening) (white : Bool) (yielded : List ℕ) (so_far : IsFlatSoFar start before t out white yielded) where

@@ -100,6 +100,7 @@ impl Front {
     pub fn put_gap(&mut self, white: bool) -> Result<(), NoMemory>
         ensures { OnOk result (self.new ≡ followed self.old (space_behind self.old.words white)) }
     {
+        let _ = &self.count;
         if self.is_empty() {
             return Ok(());
         }

@@ -69,7 +69,8 @@ impl Piece {
         let blank = other.words.is_empty();
         let white = self.ends || other.starts;
         self.words.put_words(white, other.words.as_str())?;
-        self.words.note_more(other.words.has_more());
+        let more = other.words.has_more();
+        self.words.note_more(more);
         self.starts = self.starts || (bare && other.starts);
         self.ends = other.ends || (blank && self.ends);
         Ok(())
