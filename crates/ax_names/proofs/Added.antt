@@ -1,10 +1,10 @@
 -- What a text adds to flat words, one byte at a time.
-use Rattle.std.proofs.Common.{◌≡◌, ℕ, ◌/◌, ◌<◌, ◌≤◌, List, [], ◌∷◌, ◌++◌, Bool, true, false, cond, not, ◌&&◌, ◌||◌, refl, sym, ap, ◌∙◌, arith, append_assoc, append-nil, ltb}
+use Rattle.std.proofs.Common.{◌≡◌, ℕ, ◌+◌, ◌/◌, ◌<◌, ◌≤◌, List, [], ◌∷◌, ◌++◌, Bool, true, false, cond, not, ◌&&◌, ◌||◌, refl, sym, ap, ◌∙◌, arith, append_assoc, append-nil, ltb}
 use Rattle.std.specs.List.{join_with_byte, list_all}
 use Rattle.std.proofs.lemmas.Bool.Decides.{nat_tests}
 use lib.Utf8.{encode, next}
 use Rattle.ax_base.specs.Characters.{Chars, is_white, is_blank, tokens, tokens_after, flat}
-use Rattle.ax_names.specs.Pieces.{is_empty, begins_white, ends_white, space_behind, spaced}
+use Rattle.ax_names.specs.Pieces.{is_empty, begins_white, ends_white, spaced}
 
 -- the space before a word, where words and white space stand before it
 abbrev pub space : Bool → Bool → Chars
@@ -104,7 +104,7 @@ spaced_added (w ∷ ws) white t = added_some t white ∙ ap (λ (l : Chars). spa
 -- a text behind a text
 
 -- whether words are there, and whether white space stands last, after a text
-abbrev abbrev seen : Bool → Chars → Bool
+abbrev seen : Bool → Chars → Bool
 seen some [] = some
 seen some (c ∷ cs) = cond (is_white c) (seen some cs) (seen true cs)
 
@@ -233,4 +233,4 @@ ink_added some white c rest e = go (ltb c 128) (ltb c 2048) (ltb c 65536)
     go false false false =
         ink_step some white (240 + c / 262144) (next (c / 4096) ∷ next (c / 64) ∷ next c ∷ rest) (high_ink (240 + c / 262144) (omega arith))
         ∙ ap (λ (l : Chars). space some white ++ ((240 + c / 262144) ∷ l))
-            (on (c / 4096) (next (c / 64) ∷ next c ∷ rest) ∙ ap (λ (l : Chars). next (c / 4096) ∷ l) (on (c / 64) (next c ∷ rest) ∙ ap (λ (l : Chars). next (c / 64) ∷ l) (on c rest)))
+        (on (c / 4096) (next (c / 64) ∷ next c ∷ rest) ∙ ap (λ (l : Chars). next (c / 4096) ∷ l) (on (c / 64) (next c ∷ rest) ∙ ap (λ (l : Chars). next (c / 64) ∷ l) (on c rest)))

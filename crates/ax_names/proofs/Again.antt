@@ -1,8 +1,8 @@
 -- A flat text is flat.
-use Rattle.std.proofs.Common.{◌≡◌, ℕ, List, [], ◌∷◌, ◌++◌, Bool, true, false, cond, not, ◌&&◌, refl, sym, ap, ◌∙◌}
-use Rattle.ax_base.specs.Characters.{Chars, is_white, flat, cut}
-use Rattle.ax_names.specs.Pieces.{Phrase, begins_white, ends_white, piece_of, flattened}
-use Rattle.ax_names.proofs.Added.{space, added, flat_added, white_step, ink_step}
+use Rattle.std.proofs.Common.{◌≡◌, ℕ, [], ◌∷◌, ◌++◌, Bool, true, false, cond, refl, sym, ap, ◌∙◌}
+use Rattle.ax_base.specs.Characters.{Chars, is_white, flat}
+use Rattle.ax_names.specs.Pieces.{begins_white, ends_white, opening_of, piece_of, flattened}
+use Rattle.ax_names.proofs.Added.{space, added, flat_added, ink_step}
 
 -- what was added is added again
 again_some-step : (c : ℕ) (cs : Chars) → ((white : Bool) → added true false (added true white cs) ≡ added true white cs) → (s white : Bool) → is_white c ≡ s
@@ -58,7 +58,7 @@ ends (c ∷ cs) white = ends-step c cs (ends cs true) (is_white c) refl
 -- what is kept of a text tells what is kept of the flat text
 pub flat_kept : (t : Chars) → piece_of (flat t) ≡ flattened (piece_of t)
 flat_kept t = λ i. record {
-  words = cut (flat_twice t i);
+  opening = opening_of (flat_twice t i);
   starts = (ap begins_white (flat_added t false) ∙ begins t false) i;
   ends = (ap ends_white (flat_added t false) ∙ ends t false) i;
 }

@@ -1,8 +1,8 @@
 -- What is kept of texts that are put together.
-use Rattle.std.proofs.Common.{◌≡◌, ℕ, suc, ◌-◌, List, [], ◌∷◌, ◌++◌, length, Bool, true, false, cond, not, ◌&&◌, ◌||◌, Option, Some, None, refl, sym, ap, ◌∙◌, arith}
+use Rattle.std.proofs.Common.{◌≡◌, ℕ, suc, ◌-◌, [], ◌∷◌, ◌++◌, length, Bool, true, false, cond, not, ◌&&◌, ◌||◌, Some, None, refl, sym, ap, ◌∙◌, arith}
 use Rattle.std.specs.List.{slice_get}
 use Rattle.ax_base.specs.Characters.{Chars, is_white, is_blank, flat, cut}
-use Rattle.ax_names.specs.Pieces.{Opening, Phrase, is_empty, begins_white, ends_white, is_longer, opening_of, piece_of, followed, and_more, space_behind, spaced, joined, name_of, has_no_words, has_nothing}
+use Rattle.ax_names.specs.Pieces.{Opening, Phrase, is_empty, begins_white, ends_white, is_longer, opening_of, piece_of, followed, and_more, space_behind, spaced, joined, has_no_words, has_nothing}
 use Rattle.ax_names.proofs.Openings.{empty_take, followed_opening, followed_cut}
 use Rattle.ax_names.proofs.Added.{flat_append, flat_nil, last_white, last_white-false, last_white-append, last_white-flat, last_white-empty, ink_first, blank_flat}
 

@@ -1,9 +1,9 @@
 -- Openings of texts that are put together.
-use Rattle.std.proofs.Common.{◌≡◌, not, ◌||◌, append_assoc, append-nil, ℕ, zero, suc, ◌+◌, ◌-◌, ◌/◌, ◌<◌, ◌≤◌, List, [], ◌∷◌, ◌++◌, Bool, true, false, cond, refl, sym, ap, subst, ◌∙◌, arith, ltb, eqb}
+use Rattle.std.proofs.Common.{◌≡◌, ◌||◌, append_assoc, append-nil, ℕ, zero, suc, ◌+◌, ◌-◌, ◌/◌, ◌<◌, ◌≤◌, [], ◌∷◌, ◌++◌, Bool, true, false, cond, refl, sym, ap, subst, ◌∙◌, arith, ltb, eqb}
 use Rattle.std.specs.Prelude.{encode_utf8}
 use Rattle.std.specs.Fmt.{take_chars, char_count, is_char_start}
 use Rattle.std.proofs.lemmas.Bool.Decides.{nat_tests}
-use lib.Utf8.{encode, encodes, next}
+use lib.Utf8.{encode, next}
 use Rattle.ax_base.specs.Characters.{Chars, cut}
 use Rattle.ax_names.specs.Pieces.{Opening, is_empty, is_longer, opening_of, followed, and_more}
 

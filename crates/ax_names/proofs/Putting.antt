@@ -1,12 +1,12 @@
 -- Characters that are put in one at a time.
-use Rattle.std.proofs.Common.{◌≡◌, ℕ, ◌+◌, ◌≤◌, ◌<◌, List, [], ◌∷◌, ◌++◌, length, get_or, drop, map, Bool, true, false, cond, not, ◌&&◌, ◌||◌, ◌==◌, refl, sym, ap, ◌∙◌, arith, append_assoc, append-nil}
+use Rattle.std.proofs.Common.{◌≡◌, ℕ, ◌<◌, List, [], ◌∷◌, ◌++◌, length, get_or, drop, map, Bool, true, false, cond, not, ◌&&◌, ◌||◌, ◌==◌, refl, sym, ap, ◌∙◌, arith, append_assoc, append-nil}
 use Rattle.std.specs.Prelude.{encode_utf8}
 use Rattle.std.specs.Str.{IsUtf8, chars}
 use Rattle.std.proofs.lemmas.Str.{encodes-chars}
 use Rattle.std.proofs.lemmas.List.{drop_more, at_drop_all, length_push}
 use Rattle.std.proofs.lemmas.Bool.Decides.{nat_tests}
 use lib.Utf8.{encode, encodes}
-use Rattle.ax_base.specs.Characters.{Chars, is_white, flat, cut}
+use Rattle.ax_base.specs.Characters.{Chars, is_white, flat}
 use Rattle.ax_base.proofs.CutCharacters.{same_items, encodes-push}
 use Rattle.ax_names.specs.Pieces.{Opening, is_empty, begins_white, followed, space_behind, spaced}
 use Rattle.ax_names.proofs.Openings.{with_words, followed_twice, some_last}
@@ -81,7 +81,7 @@ after_ink-at w false white c rest new e is =
     let more : Chars = added true false rest in
     let new_is : new ≡ followed (with_words w false) put = is ∙ ap (followed (with_words w false)) (spaced_char w white c) in
     let some : is_empty new.words ≡ false =
-        ap (λ (o : Opening). is_empty o.words) new_is ∙ empty_cut (w ++ put) ∙ ap (λ (l : Chars). is_empty l) (sym (append_assoc w (space (not (is_empty w)) white) (encode c))) ∙ some_last (w ++ space (not (is_empty w)) white) c in
+    ap (λ (o : Opening). is_empty o.words) new_is ∙ empty_cut (w ++ put) ∙ ap (λ (l : Chars). is_empty l) (sym (append_assoc w (space (not (is_empty w)) white) (encode c))) ∙ some_last (w ++ space (not (is_empty w)) white) c in
     ap (followed (with_words w false)) (ink_added (not (is_empty w)) white c rest e ∙ sym (append_assoc (space (not (is_empty w)) white) (encode c) more))
     ∙ sym (followed_twice (with_words w false) put more)
     ∙ (λ i. followed (sym new_is i) (added (not (sym some i)) false rest))

@@ -1,8 +1,8 @@
 -- Small texts and what is kept of them.
-use Rattle.std.specs.Prelude.{◌≡◌, ℕ, codes, refl, List, [], ◌∷◌, true, false}
+use Rattle.std.specs.Prelude.{◌≡◌, codes, refl, [], true, false}
 use Rattle.std.specs.Fmt.{take_chars, char_count}
 use Rattle.ax_base.specs.Characters.{flat, tokens}
-use Rattle.ax_names.specs.Pieces.{Phrase, piece_of, joined, flattened, name_of, has_no_words, has_nothing}
+use Rattle.ax_names.specs.Pieces.{piece_of, joined, flattened, name_of, has_no_words, has_nothing}
 
 -- runs of white space are single spaces, and those at the ends are remembered alone
 of_words : piece_of (codes " a  b ") ≡ record { opening = record { words = codes "a b"; more = false }; starts = true; ends = true }

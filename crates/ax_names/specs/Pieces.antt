@@ -1,5 +1,5 @@
 -- Pieces of a name: what is kept of a text that is joined from many, so that it is flat and cut as it is made.
-use Rattle.std.specs.Prelude.{ℕ, Bool, true, false, not, ◌&&◌, ◌||◌, if◌then◌else◌, nat_lt, List, [], ◌∷◌, ◌++◌}
+use Rattle.std.specs.Prelude.{Bool, true, false, not, ◌&&◌, ◌||◌, if◌then◌else◌, nat_lt, [], ◌∷◌, ◌++◌}
 use Rattle.std.specs.Fmt.{char_count}
 use Rattle.ax_base.specs.Characters.{Chars, is_white, flat, cut}
 

@@ -1,5 +1,5 @@
 //! The first characters of what is put together.
-ghost use Rattle.std.specs.Prelude.{◌≡◌, OnOk, encode_utf8};
+ghost use Rattle.std.specs.Prelude.{◌≡◌, ◌||◌, [], OnOk, encode_utf8};
 ghost use Rattle.ax_base.specs.Characters.{flat};
 ghost use Rattle.ax_names.specs.Pieces.{is_empty, begins_white, opening_of, followed, and_more, space_behind, spaced};
 

@@ -1,5 +1,5 @@
 //! Pieces of a name.
-ghost use Rattle.std.specs.Prelude.{◌≡◌, IfOk, OnOk};
+ghost use Rattle.std.specs.Prelude.{◌≡◌, [], IfOk, OnOk};
 ghost use Rattle.ax_names.specs.Pieces.{begins_white, ends_white, piece_of, joined, flattened, name_of, has_no_words, has_nothing};
 
 use crate::front::Front;
