@@ -9,7 +9,7 @@ pub record Opening : Type 0 where
   pub more : Bool
 
 -- what is kept of a text: the opening of its flat text, and whether the text began with white space, and ended with it.
--- a text of nothing but white space has no words, and began and ended with white space; the empty text has no words, and did neither
+-- A text of nothing but white space has no words, and began and ended with white space; the empty text has no words, and did neither
 pub record Phrase : Type 0 where
   pub opening : Opening
   pub starts : Bool
@@ -47,7 +47,7 @@ piece_of t = record { opening = opening_of (flat t); starts = begins_white t; en
 abbrev pub followed : Opening → Chars → Opening
 followed o t = record { words = if o.more then o.words else cut (o.words ++ t); more = o.more || is_longer (o.words ++ t) }
 
--- the same where the other text was cut, and whether more of it follows
+-- the same where the other text was cut, and more of it may follow
 abbrev pub and_more : Opening → Bool → Opening
 and_more o more = record { words = o.words; more = o.more || more }
 
@@ -55,7 +55,7 @@ and_more o more = record { words = o.words; more = o.more || more }
 abbrev pub space_behind : Chars → Bool → Chars
 space_behind before white = if not (is_empty before) && white then 32 ∷ [] else []
 
--- what words add to those before them: where white space came between them, and neither are empty, one space stands before them
+-- what words add to those before them: where white space came between the two, and neither is empty, one space stands before them
 abbrev pub spaced : Chars → Bool → Chars → Chars
 spaced before white after = space_behind before (white && not (is_empty after)) ++ after
 

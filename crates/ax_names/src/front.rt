@@ -1,5 +1,5 @@
 //! The first characters of what is put together.
-ghost use Rattle.std.specs.Prelude.{◌≡◌, ◌||◌, [], OnOk, encode_utf8};
+ghost use Rattle.std.specs.Prelude.{◌≡◌, ◌||◌, [], IfOk, OnOk, encode_utf8};
 ghost use Rattle.ax_base.specs.Characters.{flat};
 ghost use Rattle.ax_names.specs.Pieces.{is_empty, begins_white, opening_of, followed, and_more, space_behind, spaced};
 
@@ -43,6 +43,17 @@ impl Front {
             count: 0,
             more: false,
         }
+    }
+
+    /// An equal copy.
+    pub fn copy(&self, alloc: Global) -> Result<Front, NoMemory>
+        ensures { IfOk result (λ f. f ≡ self.now) }
+    {
+        Ok(Front {
+            string: String::from_str(alloc, self.string.as_str())?,
+            count: self.count,
+            more: self.more,
+        })
     }
 
     /// Whether it has no character.

@@ -47,6 +47,17 @@ impl Piece {
         Ok(piece)
     }
 
+    /// An equal copy.
+    pub fn copy(&self, alloc: Global) -> Result<Piece, NoMemory>
+        ensures { IfOk result (λ p. p ≡ self.now) }
+    {
+        Ok(Piece {
+            words: self.words.copy(alloc)?,
+            starts: self.starts,
+            ends: self.ends,
+        })
+    }
+
     /// Adds a text at the end.
     pub fn push(&mut self, text: &str) -> Result<(), NoMemory>
         ensures { OnOk result (self.new ≡ joined self.old (piece_of text.now)) }

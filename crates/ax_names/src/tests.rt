@@ -113,3 +113,15 @@ fn a_flat_text_has_no_ends(rt: HostRuntime) -> Result<(), Fail> {
     assert!(rt; piece.into_name().is("teapot"));
     Ok(())
 }
+
+#[test]
+fn a_copy_goes_on_by_itself(rt: HostRuntime) -> Result<(), Fail> {
+    let alloc = rt.alloc();
+    let mut piece = Piece::of(alloc, "tea ")?;
+    let mut copy = piece.copy(alloc)?;
+    piece.push("pot")?;
+    copy.push("leaf")?;
+    assert!(rt; piece.into_name().is("tea pot"));
+    assert!(rt; copy.into_name().is("tea leaf"));
+    Ok(())
+}
