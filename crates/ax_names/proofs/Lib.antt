@@ -4,3 +4,4 @@ pub mod Added
 pub mod Joining
 pub mod Putting
 pub mod Again
+pub mod Apart

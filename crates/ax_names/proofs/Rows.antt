@@ -1,8 +1,8 @@
 -- Small texts and what is kept of them.
-use Rattle.std.specs.Prelude.{◌≡◌, codes, refl, [], true, false}
+use Rattle.std.specs.Prelude.{◌≡◌, codes, refl, [], ◌∷◌, map, true, false}
 use Rattle.std.specs.Fmt.{take_chars, char_count}
-use Rattle.ax_base.specs.Characters.{flat, tokens}
-use Rattle.ax_names.specs.Pieces.{piece_of, joined, flattened, name_of, has_no_words, has_nothing}
+use Rattle.ax_base.specs.Characters.{flat, tokens, joined_by_spaces}
+use Rattle.ax_names.specs.Pieces.{piece_of, joined, flattened, all_apart, name_of, has_no_words, has_nothing}
 
 -- runs of white space are single spaces, and those at the ends are remembered alone
 of_words : piece_of (codes " a  b ") ≡ record { opening = record { words = codes "a b"; more = false }; starts = true; ends = true }
@@ -45,6 +45,11 @@ joined-first = refl
 flattened-words : flattened (piece_of (codes " a  b ")) ≡ piece_of (codes "a b")
 unfolding flat tokens take_chars char_count
 flattened-words = refl
+
+-- flat texts joined by spaces, those that are empty left out
+referred : piece_of (joined_by_spaces (map flat (codes " a " ∷ codes " " ∷ codes "b" ∷ []))) ≡ flattened (piece_of (all_apart (codes " a " ∷ codes " " ∷ codes "b" ∷ [])))
+unfolding flat tokens take_chars char_count
+referred = refl
 
 named : name_of (piece_of (codes " a  b ")) ≡ codes "a b"
 unfolding flat tokens take_chars char_count

@@ -1,5 +1,6 @@
 -- Pieces of a name: what is kept of a text that is joined from many, so that it is flat and cut as it is made.
-use Rattle.std.specs.Prelude.{Bool, true, false, not, ◌&&◌, ◌||◌, if◌then◌else◌, nat_lt, [], ◌∷◌, ◌++◌}
+use Rattle.std.specs.Prelude.{Bool, true, false, not, ◌&&◌, ◌||◌, if◌then◌else◌, nat_lt, List, [], ◌∷◌, ◌++◌}
+use Rattle.std.specs.List.{flat_map}
 use Rattle.std.specs.Fmt.{char_count}
 use Rattle.ax_base.specs.Characters.{Chars, is_white, flat, cut}
 
@@ -70,6 +71,10 @@ joined a b = record {
 -- what is kept of a text once it is made flat
 abbrev pub flattened : Phrase → Phrase
 flattened p = record { opening = p.opening; starts = false; ends = false }
+
+-- texts one behind another, each behind a space
+abbrev pub all_apart : List Chars → Chars
+all_apart ts = flat_map (λ (t : Chars). 32 ∷ t) ts
 
 -- the name that the text makes
 abbrev pub name_of : Phrase → Chars

@@ -1,9 +1,9 @@
 //! Names that are flat and cut while they are made.
 #![tactic(auto)]
 
-ghost use Rattle.std.specs.Prelude.{◌≡◌, ◌++◌};
-ghost use Rattle.ax_base.specs.Characters.{Chars, is_blank, flat, cut};
-ghost use Rattle.ax_names.specs.Pieces.{is_empty, piece_of, joined, flattened, name_of, has_no_words, has_nothing};
+ghost use Rattle.std.specs.Prelude.{◌≡◌, ◌++◌, List, map};
+ghost use Rattle.ax_base.specs.Characters.{Chars, is_blank, flat, cut, joined_by_spaces};
+ghost use Rattle.ax_names.specs.Pieces.{is_empty, piece_of, joined, flattened, all_apart, name_of, has_no_words, has_nothing};
 
 mod front;
 mod pieces;
@@ -18,6 +18,7 @@ pub use pieces::Piece;
 pub fn pieces_tell()
     ensures together { (a b : Chars) → piece_of (a ++ b) ≡ joined (piece_of a) (piece_of b) }
     ensures again { (t : Chars) → piece_of (flat t) ≡ flattened (piece_of t) }
+    ensures apart { (ts : List Chars) → piece_of (joined_by_spaces (map flat ts)) ≡ flattened (piece_of (all_apart ts)) }
     ensures name { (t : Chars) → name_of (piece_of t) ≡ cut (flat t) }
     ensures blank { (t : Chars) → has_no_words (piece_of t) ≡ is_blank t }
     ensures empty { (t : Chars) → has_nothing (piece_of t) ≡ is_empty t }

@@ -1,5 +1,6 @@
 use Rattle.ax_names.proofs.Joining.{pieces_join, blank_kept, nothing_kept}
 use Rattle.ax_names.proofs.Again.{flat_kept}
+use Rattle.ax_names.proofs.Apart.{apart_kept}
 use Rattle.ax_names.proofs.pieces_tell.Goals as goal
 
 pub returns-clause-together : goal.returns-clause-together
@@ -13,3 +14,6 @@ returns-clause-blank c = blank_kept
 
 pub returns-clause-empty : goal.returns-clause-empty
 returns-clause-empty c = nothing_kept
+
+pub returns-clause-apart : goal.returns-clause-apart
+returns-clause-apart c = apart_kept
