@@ -57,6 +57,7 @@ ends (c ∷ cs) white = ends-step c cs (ends cs true) (is_white c) refl
 
 -- what is kept of a text tells what is kept of the flat text
 pub flat_kept : (t : Chars) → piece_of (flat t) ≡ flattened (piece_of t)
+unfolding piece_of
 flat_kept t = λ i. record {
   opening = opening_of (flat_twice t i);
   starts = (ap begins_white (flat_added t false) ∙ begins t false) i;

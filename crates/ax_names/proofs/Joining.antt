@@ -2,7 +2,7 @@
 use Rattle.std.proofs.Common.{◌≡◌, ℕ, suc, ◌-◌, [], ◌∷◌, ◌++◌, length, Bool, true, false, cond, not, ◌&&◌, ◌||◌, Some, None, refl, sym, ap, ◌∙◌, arith}
 use Rattle.std.specs.List.{slice_get}
 use Rattle.ax_base.specs.Characters.{Chars, is_white, is_blank, flat, cut}
-use Rattle.ax_names.specs.Pieces.{Opening, Phrase, is_empty, begins_white, ends_white, is_longer, opening_of, piece_of, followed, and_more, space_behind, spaced, joined, has_no_words, has_nothing}
+use Rattle.ax_names.specs.Pieces.{Opening, Phrase, is_empty, begins_white, ends_white, is_longer, opening_of, piece_of, followed, and_more, space_behind, spaced, joined, name_of, has_no_words, has_nothing}
 use Rattle.ax_names.proofs.Openings.{empty_take, followed_opening, followed_cut}
 use Rattle.ax_names.proofs.Added.{flat_append, flat_nil, last_white, last_white-false, last_white-append, last_white-flat, last_white-empty, ink_first, blank_flat}
 
@@ -40,11 +40,13 @@ joined-ends a b =
 
 -- what is kept of the parts tells what is kept of the whole
 pub pieces_join : (a b : Chars) → piece_of (a ++ b) ≡ joined (piece_of a) (piece_of b)
+unfolding piece_of joined
 pieces_join a b = λ i. record { opening = joined-opening a b i; starts = joined-starts a b i; ends = joined-ends a b i }
 
 -- what is kept tells whether the text was blank, and whether it was empty
 
 pub blank_kept : (t : Chars) → has_no_words (piece_of t) ≡ is_blank t
+unfolding piece_of
 blank_kept t = empty_cut (flat t) ∙ sym (blank_flat t)
 
 and_false : (x : Bool) → (x && false) ≡ false
@@ -52,6 +54,7 @@ and_false true = refl
 and_false false = refl
 
 pub nothing_kept : (t : Chars) → has_nothing (piece_of t) ≡ is_empty t
+unfolding piece_of
 nothing_kept [] = ap (λ (e : Bool). e && true) (empty_cut (flat []) ∙ ap (λ (l : Chars). is_empty l) flat_nil)
 nothing_kept (c ∷ cs) = go (is_white c) refl
   where
@@ -69,6 +72,7 @@ pub pushed : (old : Opening) (starts ends : Bool) (t : Chars) (new : Opening) (n
     → new_starts ≡ (starts || (is_empty old.words && begins_white t))
     → new_ends ≡ (ends_white t || (is_empty t && ends))
     → phrase new new_starts new_ends ≡ joined (phrase old starts ends) (piece_of t)
+unfolding piece_of joined
 pushed old starts ends t new new_starts new_ends p q r = λ i. record { opening = opening_is i; starts = q i; ends = ends_is i }
   where
     opening_is : new ≡ and_more (followed old (spaced old.words (ends || begins_white t) (cut (flat t)))) (is_longer (flat t))
@@ -84,6 +88,7 @@ pub appended : (old : Opening) (starts ends : Bool) (other : Phrase) (mid new : 
     → new_starts ≡ (starts || (is_empty old.words && other.starts))
     → new_ends ≡ (other.ends || (is_empty other.opening.words && ends))
     → phrase new new_starts new_ends ≡ joined (phrase old starts ends) other
+unfolding joined
 appended old starts ends other mid new new_starts new_ends p more q r = λ i. record { opening = opening_is i; starts = q i; ends = r i }
   where
     opening_is : new ≡ and_more (followed old (spaced old.words (ends || other.starts) other.opening.words)) other.opening.more
@@ -91,6 +96,7 @@ appended old starts ends other mid new new_starts new_ends p more q r = λ i. re
 
 -- the piece of the empty text
 pub empty_piece : (o : Opening) → o ≡ opening_of [] → phrase o false false ≡ piece_of []
+unfolding piece_of
 empty_piece o is = λ i. record { opening = opening_is i; starts = false; ends = false }
   where
     opening_is : o ≡ opening_of (flat [])
@@ -122,3 +128,7 @@ pub ends_nowhere : (t : Chars) → slice_get t (length t - 1) ≡ None → false
 ends_nowhere [] is = refl
 ends_nowhere (c ∷ []) is = absurd (cc)
 ends_nowhere (c ∷ d ∷ ds) is = ends_nowhere (d ∷ ds) (sym (last_of c d ds) ∙ is)
+
+pub name_kept : (t : Chars) → name_of (piece_of t) ≡ cut (flat t)
+unfolding piece_of
+name_kept t = refl

@@ -41,7 +41,7 @@ abbrev pub opening_of : Chars → Opening
 opening_of t = record { words = cut t; more = is_longer t }
 
 -- what is kept of a text
-abbrev pub piece_of : Chars → Phrase
+unfoldable pub piece_of : Chars → Phrase
 piece_of t = record { opening = opening_of (flat t); starts = begins_white t; ends = ends_white t }
 
 -- the opening of a text that is followed by another
@@ -61,7 +61,7 @@ abbrev pub spaced : Chars → Bool → Chars → Chars
 spaced before white after = space_behind before (white && not (is_empty after)) ++ after
 
 -- what is kept of two texts, one behind the other
-abbrev pub joined : Phrase → Phrase → Phrase
+unfoldable pub joined : Phrase → Phrase → Phrase
 joined a b = record {
   opening = and_more (followed a.opening (spaced a.opening.words (a.ends || b.starts) b.opening.words)) b.opening.more;
   starts = a.starts || (is_empty a.opening.words && b.starts);

@@ -1,4 +1,4 @@
-use Rattle.ax_names.proofs.Joining.{pieces_join, blank_kept, nothing_kept}
+use Rattle.ax_names.proofs.Joining.{pieces_join, name_kept, blank_kept, nothing_kept}
 use Rattle.ax_names.proofs.Again.{flat_kept}
 use Rattle.ax_names.proofs.Apart.{apart_kept}
 use Rattle.ax_names.proofs.pieces_tell.Goals as goal
@@ -17,3 +17,6 @@ returns-clause-empty c = nothing_kept
 
 pub returns-clause-apart : goal.returns-clause-apart
 returns-clause-apart c = apart_kept
+
+pub returns-clause-name : goal.returns-clause-name
+returns-clause-name c = name_kept
