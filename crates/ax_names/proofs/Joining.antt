@@ -1,5 +1,5 @@
 -- What is kept of texts that are put together.
-use Rattle.std.proofs.Common.{◌≡◌, ℕ, suc, ◌-◌, [], ◌∷◌, ◌++◌, length, Bool, true, false, cond, not, ◌&&◌, ◌||◌, Some, None, refl, sym, ap, ◌∙◌, arith}
+use Rattle.std.proofs.Common.{◌≡◌, ℕ, suc, ◌-◌, [], ◌∷◌, ◌++◌, length, Bool, true, false, cond, not, ◌&&◌, ◌||◌, Some, refl, sym, ap, ◌∙◌, arith}
 use Rattle.std.specs.List.{slice_get}
 use Rattle.ax_base.specs.Characters.{Chars, is_white, is_blank, flat, cut}
 use Rattle.ax_names.specs.Pieces.{Opening, Phrase, is_empty, begins_white, ends_white, is_longer, opening_of, piece_of, followed, and_more, space_behind, spaced, joined, name_of, has_no_words, has_nothing}
@@ -81,19 +81,6 @@ pushed old starts ends t new new_starts new_ends p q r = λ i. record { opening 
     ends_is : new_ends ≡ (ends_white t || (is_empty (cut (flat t)) && ends))
     ends_is = r ∙ sym (last_white-empty t ends) ∙ last_white-flat t ends ∙ ap (λ (e : Bool). ends_white t || (e && ends)) (sym (empty_cut (flat t)))
 
--- a piece that is put behind another
-pub appended : (old : Opening) (starts ends : Bool) (other : Phrase) (mid new : Opening) (new_starts new_ends : Bool)
-    → mid ≡ followed old (spaced old.words (ends || other.starts) other.opening.words)
-    → new ≡ and_more mid other.opening.more
-    → new_starts ≡ (starts || (is_empty old.words && other.starts))
-    → new_ends ≡ (other.ends || (is_empty other.opening.words && ends))
-    → phrase new new_starts new_ends ≡ joined (phrase old starts ends) other
-unfolding joined
-appended old starts ends other mid new new_starts new_ends p more q r = λ i. record { opening = opening_is i; starts = q i; ends = r i }
-  where
-    opening_is : new ≡ and_more (followed old (spaced old.words (ends || other.starts) other.opening.words)) other.opening.more
-    opening_is = more ∙ ap (λ (o : Opening). and_more o other.opening.more) p
-
 -- the piece of the empty text
 pub empty_piece : (o : Opening) → o ≡ opening_of [] → phrase o false false ≡ piece_of []
 unfolding piece_of
@@ -108,14 +95,6 @@ only_piece t p is = is ∙ sym (pieces_join [] t)
 
 -- the ends of a text
 
-pub begins_at : (t : Chars) (b : ℕ) → slice_get t 0 ≡ Some b → is_white b ≡ begins_white t
-begins_at [] b is = absurd (cc)
-begins_at (c ∷ cs) b is = let same : b ≡ c = cc in ap is_white same
-
-pub begins_nowhere : (t : Chars) → slice_get t 0 ≡ None → false ≡ begins_white t
-begins_nowhere [] is = refl
-begins_nowhere (c ∷ cs) is = absurd (cc)
-
 last_of : (c d : ℕ) (ds : Chars) → slice_get (c ∷ d ∷ ds) (length (c ∷ d ∷ ds) - 1) ≡ slice_get (d ∷ ds) (length (d ∷ ds) - 1)
 last_of c d ds = let deeper : length (c ∷ d ∷ ds) - 1 ≡ suc (length (d ∷ ds) - 1) = omega arith in ap (slice_get (c ∷ d ∷ ds)) deeper
 
@@ -123,11 +102,6 @@ pub ends_at : (t : Chars) (b : ℕ) → slice_get t (length t - 1) ≡ Some b �
 ends_at [] b is = absurd (cc)
 ends_at (c ∷ []) b is = let same : b ≡ c = cc in ap is_white same
 ends_at (c ∷ d ∷ ds) b is = ends_at (d ∷ ds) b (sym (last_of c d ds) ∙ is)
-
-pub ends_nowhere : (t : Chars) → slice_get t (length t - 1) ≡ None → false ≡ ends_white t
-ends_nowhere [] is = refl
-ends_nowhere (c ∷ []) is = absurd (cc)
-ends_nowhere (c ∷ d ∷ ds) is = ends_nowhere (d ∷ ds) (sym (last_of c d ds) ∙ is)
 
 pub name_kept : (t : Chars) → name_of (piece_of t) ≡ cut (flat t)
 unfolding piece_of

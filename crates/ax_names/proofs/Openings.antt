@@ -287,13 +287,6 @@ put_fits w c room = λ i. record { words = words_are i; more = more_is i }
 pub stays_nil : (o : Opening) (w : Chars) (m : Bool) → with_words w m ≡ o → char_count w ≤ 512 → o ≡ followed o []
 stays_nil o w m view most = subst (λ (p : Opening). p ≡ followed p []) view (followed_nil w m most)
 
-marked_stays : (w : Chars) (m : Bool) (x : Chars) → m ≡ true → with_words w m ≡ followed (with_words w m) x
-marked_stays w true x e = refl
-marked_stays w false x e = absurd (cc)
-
-pub stays_marked : (o : Opening) (x : Chars) → o.more ≡ true → o ≡ followed o x
-stays_marked o x e = marked_stays o.words o.more x e
-
 pub puts_none : (o : Opening) (w : Chars) (m : Bool) (c : ℕ) → with_words w m ≡ o → m ≡ false → char_count w ≡ 512 → with_words w true ≡ followed o (encode_utf8 c)
 puts_none o w m c view unmarked full = put_full w c full ∙ ap (λ (p : Opening). followed p (encode c)) ((λ i. with_words w (sym unmarked i)) ∙ view)
 

@@ -30,13 +30,6 @@ pub gap_off : (o : Opening) (white : Bool) → white ≡ false → o ≡ followe
 gap_off o white off stays =
     stays ∙ ap (λ (e : Bool). followed o (cond e (32 ∷ []) [])) (sym (ap (λ (v : Bool). not (is_empty o.words) && v) off ∙ and_false (not (is_empty o.words))))
 
-space_char : encode 32 ≡ 32 ∷ []
-unfolding encode
-space_char = refl
-
-pub gap_on : (o new : Opening) (white : Bool) → is_empty o.words ≡ false → white ≡ true → new ≡ followed o (encode_utf8 32) → new ≡ followed o (space_behind o.words white)
-gap_on o new white some on is = is ∙ ap (followed o) (space_char ∙ (λ i. cond (not (sym some i) && sym on i) (32 ∷ []) []))
-
 -- words that are put in
 
 -- a space, and then words
