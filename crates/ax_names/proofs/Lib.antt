@@ -1,0 +1,7 @@
+mod Rows
+pub mod Openings
+pub mod Added
+pub mod Joining
+pub mod Putting
+pub mod Again
+pub mod Apart

@@ -1,0 +1,171 @@
+//! The first characters of what is put together.
+ghost use Rattle.std.specs.Prelude.{◌≡◌, ◌||◌, [], IfOk, OnOk, encode_utf8};
+ghost use Rattle.ax_base.specs.Characters.{flat};
+ghost use Rattle.ax_names.specs.Pieces.{is_empty, begins_white, opening_of, followed, and_more, space_behind, spaced};
+
+use ax_base::{NoMemory, Text};
+use std::alloc::Global;
+use std::marker::Model;
+
+/// The most characters that are kept.
+const MOST: usize = 512;
+
+/// The first 512 characters of all that is put into it, and whether more came.
+///
+/// Where a call has no memory left, it is of no more use.
+#[derive(Drop)]
+pub struct Front {
+    string: String,
+    count: usize,
+    more: bool,
+}
+
+impl Model for Front {
+    ghost use Rattle.std.specs.Prelude.{◌≡◌, ◌≤◌};
+    ghost use Rattle.std.specs.String.{string_bytes};
+    ghost use Rattle.std.specs.Fmt.{char_count};
+    ghost use Rattle.ax_names.specs.Pieces.{Opening};
+
+    ghost Value = { Opening };
+
+    ghost view = { λ f. record { words = string_bytes f.string; more = f.more } };
+
+    ghost invariant = { λ f. (char_count (string_bytes f.string) ≡ f.count) × (f.count ≤ 512) };
+}
+
+impl Front {
+    /// No characters. It takes no memory.
+    pub fn new(alloc: Global) -> Front
+        ensures { result ≡ opening_of [] }
+    {
+        Front {
+            string: String::new(alloc),
+            count: 0,
+            more: false,
+        }
+    }
+
+    /// An equal copy.
+    pub fn copy(&self, alloc: Global) -> Result<Front, NoMemory>
+        ensures { IfOk result (λ f. f ≡ self.now) }
+    {
+        Ok(Front {
+            string: String::from_str(alloc, self.string.as_str())?,
+            count: self.count,
+            more: self.more,
+        })
+    }
+
+    /// Whether it has no character.
+    pub fn is_empty(&self) -> bool
+        ensures { result ≡ is_empty self.now.words }
+    {
+        self.string.as_str().is_empty()
+    }
+
+    /// Whether more characters came than it keeps: nothing that is put into it changes it any more.
+    pub fn has_more(&self) -> bool
+        ensures { result ≡ self.now.more }
+    {
+        self.more
+    }
+
+    /// The characters.
+    pub fn as_str(&self) -> &str
+        ensures { result.now ≡ self.now.words }
+    {
+        self.string.as_str()
+    }
+
+    /// The characters as a text. It takes no memory.
+    pub fn into_text(self) -> Text
+        ensures { result ≡ self.words }
+    {
+        Text::from_string(self.string)
+    }
+
+    /// Says that more characters came, if they did.
+    pub fn note_more(&mut self, more: bool)
+        ensures { self.new ≡ and_more self.old more }
+    {
+        self.more = self.more || more;
+    }
+
+    /// Puts a character in.
+    pub fn put(&mut self, c: char) -> Result<(), NoMemory>
+        ensures { OnOk result (self.new ≡ followed self.old (encode_utf8 c)) }
+    {
+        if self.more {
+            return Ok(());
+        }
+        if self.count == MOST {
+            self.more = true;
+            return Ok(());
+        }
+        self.string.push(c)?;
+        self.count += 1;
+        Ok(())
+    }
+
+    /// Puts a space in, where there are words and white space came behind them.
+    pub fn put_gap(&mut self, white: bool) -> Result<(), NoMemory>
+        ensures { OnOk result (self.new ≡ followed self.old (space_behind self.old.words white)) }
+    {
+        let _ = &self.count;
+        if self.is_empty() {
+            return Ok(());
+        }
+        if !white {
+            return Ok(());
+        }
+        self.put(' ')
+    }
+
+    /// Puts the characters of a text in, as they are.
+    pub fn put_str(&mut self, text: &str) -> Result<(), NoMemory>
+        ensures { OnOk result (self.new ≡ followed self.old text.now) }
+    {
+        let _ = &self.count;
+        for c in text.chars() {
+            self.put(c)?;
+        }
+        Ok(())
+    }
+
+    /// Puts flat words in, behind a space where white space came between.
+    pub fn put_words(&mut self, white: bool, words: &str) -> Result<(), NoMemory>
+        ensures { OnOk result (self.new ≡ followed self.old (spaced self.old.words white words.now)) }
+    {
+        let bare = words.is_empty();
+        self.put_gap(white && !bare)?;
+        self.put_str(words)
+    }
+
+    /// Puts a text in, made flat, where white space came before it or not. It reads no further once nothing changes any more.
+    pub fn put_flat(&mut self, white: bool, text: &str) -> Result<(), NoMemory>
+        ensures { OnOk result (self.new ≡ followed self.old (spaced self.old.words (white || begins_white text.now) (flat text.now))) }
+    {
+        let _ = &self.count;
+        let mut apart = white;
+        for c in text.chars() {
+            if self.has_more() {
+                return Ok(());
+            }
+            if c.is_ascii_whitespace() {
+                apart = true;
+            } else {
+                self.put_ink(apart, c)?;
+                apart = false;
+            }
+        }
+        Ok(())
+    }
+
+    /// Puts a character of a word in, behind a space where white space came between.
+    fn put_ink(&mut self, white: bool, c: char) -> Result<(), NoMemory>
+        ensures { OnOk result (self.new ≡ followed self.old (spaced self.old.words white (encode_utf8 c))) }
+    {
+        self.put_gap(white)?;
+        self.put(c)
+    }
+}

@@ -1,0 +1,25 @@
+//! Names that are flat and cut while they are made.
+#![tactic(auto)]
+
+ghost use Rattle.std.specs.Prelude.{◌≡◌, ◌++◌, List, map};
+ghost use Rattle.ax_base.specs.Characters.{Chars, is_blank, flat, cut, joined_by_spaces};
+ghost use Rattle.ax_names.specs.Pieces.{is_empty, piece_of, joined, flattened, all_apart, name_of, has_no_words, has_nothing};
+
+mod front;
+mod pieces;
+#[cfg(test)]
+mod tests;
+
+pub use pieces::Piece;
+
+/// What is kept of texts tells what is kept of them put together, and what name they make.
+///
+/// It is a law of the definitions, which this call carries.
+pub fn pieces_tell()
+    ensures together { (a b : Chars) → piece_of (a ++ b) ≡ joined (piece_of a) (piece_of b) }
+    ensures again { (t : Chars) → piece_of (flat t) ≡ flattened (piece_of t) }
+    ensures apart { (ts : List Chars) → piece_of (joined_by_spaces (map flat ts)) ≡ flattened (piece_of (all_apart ts)) }
+    ensures name { (t : Chars) → name_of (piece_of t) ≡ cut (flat t) }
+    ensures blank { (t : Chars) → has_no_words (piece_of t) ≡ is_blank t }
+    ensures empty { (t : Chars) → has_nothing (piece_of t) ≡ is_empty t }
+{}
