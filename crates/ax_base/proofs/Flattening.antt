@@ -32,7 +32,7 @@ not_white : (b : ℕ) → 128 ≤ b → is_white b ≡ false
 not_white b high = grind (arith, nat_tests)
 
 -- one more byte of a word
-word_byte : (w : Chars) (b : ℕ) (rest : Chars) → is_white b ≡ false → tokens_after w (b ∷ rest) ≡ tokens_after (w ++ b ∷ []) rest
+pub word_byte : (w : Chars) (b : ℕ) (rest : Chars) → is_white b ≡ false → tokens_after w (b ∷ rest) ≡ tokens_after (w ++ b ∷ []) rest
 word_byte [] b rest off = ap (λ t. cond t (tokens_after [] rest) (tokens_after (b ∷ []) rest)) off
 word_byte (w ∷ ws) b rest off = ap (λ t. cond t ((w ∷ ws) ∷ tokens_after [] rest) (tokens_after ((w ∷ ws) ++ b ∷ []) rest)) off
 

@@ -2,14 +2,27 @@
 use Rattle.std.proofs.Common.{◌≡◌, ◌≢◌, inl, inr, ℕ, zero, suc, ◌-◌, ◌<◌, ◌≤◌, List, [], ◌∷◌, ◌++◌, map, Contains, Bool, true, false, cond, ◌||◌, refl, sym, ap, subst, ◌∙◌, arith}
 use Rattle.std.proofs.lemmas.Bool.Decides.{eqb_tells}
 use Rattle.std.specs.List.{flat_map, list_any}
-use Rattle.std.specs.Option.{option_map_or}
+use Rattle.std.specs.Option.{option_map_or, unwrap_or}
+use Rattle.ax_base.specs.declared.states.Live.TheVariants.{Off}
 use Rattle.ax_base.specs.Document.{Document, has, spot, children, lineage, ancestors, root, IsChild}
 use Rattle.ax_base.specs.Trees.{IsTree}
-use Rattle.ax_base.specs.Roles.{prunes, ignored}
-use Rattle.ax_base.specs.Kids.{standing, kids, kids_from, taken, is_pruned, is_shut, from_kids}
+use Rattle.ax_base.specs.Roles.{hides, prunes, ignored}
+use Rattle.ax_base.specs.States.{sets_live}
+use Rattle.ax_base.specs.Context.{is_hidden, is_pruned, is_out, is_shut, first_live, live_at}
+use Rattle.ax_base.specs.Kids.{standing, kids, kids_from, taken, from_kids}
 use Rattle.ax_base.proofs.Below.{from_below_unfolds}
 use Rattle.ax_base.proofs.Joins.{in_flat_map}
 use Rattle.ax_base.proofs.Places.{parent-child, parent-root, lineage-child, lineage-root}
+
+or-assoc : (a b c : Bool) → ((a || b) || c) ≡ (a || (b || c))
+or-assoc true b c = refl
+or-assoc false b c = refl
+
+-- where neither of two holds, one of three holds just where the one between them does
+only_middle : (a b c : Bool) → (a || c) ≡ false → (a || (b || c)) ≡ b
+only_middle true b c none = cc
+only_middle false true c none = refl
+only_middle false false c none = none
 
 module _ (d : Document) (t : IsTree d) where
   falls : (n c : ℕ) → IsChild d n c → 64 - t.level c < 64 - t.level n
@@ -32,7 +45,7 @@ module _ (d : Document) (t : IsTree d) where
 
   -- what a child gives is deeper than what it is a child of
   taken_deeper : (n c k : ℕ) → IsChild d n c → (Contains (kids d c) k → t.level c < t.level k) → Contains (taken d c) k → t.level n < t.level k
-  taken_deeper n c k child below inside = go (is_pruned d c) (ignored (spot d c)) inside
+  taken_deeper n c k child below inside = go (is_out d c) (ignored (spot d c)) inside
     where
       go : (x y : Bool) → Contains (cond x [] (cond y (kids d c) (c ∷ []))) k → t.level n < t.level k
       go true y inside = absurd (omega arith)
@@ -64,17 +77,11 @@ module _ (d : Document) (t : IsTree d) where
   pub ancestors-child : (n c : ℕ) → IsChild d n c → ancestors d c ≡ lineage d n
   ancestors-child n c child = ap (λ o. option_map_or (lineage d) o []) (parent-child d t n c child)
 
-  -- a child is pruned where its parent prunes or is pruned
-  pub pruned-child : (n c : ℕ) → IsChild d n c → is_pruned d c ≡ is_shut d n
-  pruned-child n c child = ap (list_any (λ a. prunes (spot d a))) (ancestors-child n c child)
-
-  -- whether a child or one of its ancestors prunes
-  pub shut-child : (n c : ℕ) → IsChild d n c → is_shut d c ≡ (prunes (spot d c) || is_shut d n)
-  shut-child n c child = ap (list_any (λ a. prunes (spot d a))) (lineage-child d t n c child)
-
-  -- below the root nothing is pruned but by the root, and that prunes nothing
-  pub shut-root : is_shut d root ≡ (prunes (spot d root) || false)
-  shut-root = ap (list_any (λ a. prunes (spot d a))) (lineage-root d t)
+  -- a child is out where it hides, or where what is below its parent is out
+  pub out-child : (n c : ℕ) → IsChild d n c → is_out d c ≡ (hides (spot d c) || is_shut d n)
+  out-child n c child =
+      (λ i. list_any (λ a. hides (spot d a)) (lineage-child d t n c child i) || list_any (λ a. prunes (spot d a)) (ancestors-child n c child i))
+      ∙ or-assoc (hides (spot d c)) (is_hidden d n) (list_any (λ a. prunes (spot d a)) (lineage d n))
 
   -- a node's lineage is the node and its ancestors
   pub lineage-ancestors : (n : ℕ) → has d n ≡ true → lineage d n ≡ n ∷ ancestors d n
@@ -86,6 +93,22 @@ module _ (d : Document) (t : IsTree d) where
       below : n ≢ root → lineage d n ≡ n ∷ ancestors d n
       below apart = let up = t.hung n there apart in lineage-child d t up.0 n up.1 ∙ ap (λ l. n ∷ l) (sym (ancestors-child up.0 n up.1))
 
-  -- nothing is shown below a node that prunes or is pruned
-  pub shut-ancestors : (n : ℕ) → has d n ≡ true → is_shut d n ≡ (prunes (spot d n) || is_pruned d n)
-  shut-ancestors n there = ap (list_any (λ a. prunes (spot d a))) (lineage-ancestors n there)
+  -- what is below a node is out where the node is hidden, prunes or is pruned
+  pub shut-ancestors : (n : ℕ) → has d n ≡ true → is_shut d n ≡ (is_hidden d n || (prunes (spot d n) || is_pruned d n))
+  shut-ancestors n there = ap (λ ns. is_hidden d n || list_any (λ a. prunes (spot d a)) ns) (lineage-ancestors n there)
+
+  -- where a node is not out, what is below it is out just where it prunes
+  pub shut-prunes : (n : ℕ) → has d n ≡ true → is_out d n ≡ false → is_shut d n ≡ prunes (spot d n)
+  shut-prunes n there visible = shut-ancestors n there ∙ only_middle (is_hidden d n) (prunes (spot d n)) (is_pruned d n) visible
+
+  -- the root is not out
+  pub root_visible : is_out d root ≡ false
+  root_visible = λ i. list_any (λ a. hides (spot d a)) (lineage-root d t i) || list_any (λ a. prunes (spot d a)) (option_map_or (lineage d) (parent-root d t i) [])
+
+  -- a child that sets no live has that of its parent
+  pub live-child : (n c : ℕ) → IsChild d n c → live_at d c ≡ unwrap_or (sets_live (spot d c)) (live_at d n)
+  live-child n c child = ap (first_live d) (lineage-child d t n c child)
+
+  -- and the root that sets none has off
+  pub live-root : live_at d root ≡ unwrap_or (sets_live (spot d root)) Off
+  live-root = ap (first_live d) (lineage-root d t)

@@ -4,6 +4,7 @@ pub mod Places
 pub mod AttributeNames
 pub mod CutCharacters
 pub mod Flattening
+pub mod FirstTokens
 pub mod Lookups
 pub mod SameLookups
 pub mod Repeats
@@ -13,3 +14,6 @@ pub mod Reached
 pub mod KidsLaws
 pub mod Objects
 pub mod Written
+mod Rectangles
+mod Tables
+mod Rows

@@ -10,7 +10,8 @@ use Rattle.std.proofs.lemmas.Map.Views.{Contains-from_any}
 use Rattle.ax_base.specs.Document.{Document, has, spot, children, lineage, ancestors, root, IsChild}
 use Rattle.ax_base.specs.Trees.{IsTree, HasNoRepeats}
 use Rattle.ax_base.specs.Roles.{ignored}
-use Rattle.ax_base.specs.Kids.{kids, taken, is_pruned, objects}
+use Rattle.ax_base.specs.Context.{is_out}
+use Rattle.ax_base.specs.Kids.{kids, taken, objects}
 use Rattle.ax_base.proofs.Membership.{Contains-head, Contains-tail}
 use Rattle.ax_base.proofs.Places.{has_children, lineage-child}
 use Rattle.ax_base.proofs.KidsLaws.{kids-children, ancestors-child, kids_deeper, kids_fall, lineage-ancestors}
@@ -39,12 +40,12 @@ same_one p q e = cc
 module _ (d : Document) (t : IsTree d) where
   -- What holds of each child that is shown, and goes on to what is above from a child that is ignored, holds of each kid.
   module _ (P : ℕ → ℕ → Type 0)
-      (here : (n c : ℕ) → IsChild d n c → is_pruned d c ≡ false → ignored (spot d c) ≡ false → P n c)
-      (past : (n c k : ℕ) → IsChild d n c → is_pruned d c ≡ false → ignored (spot d c) ≡ true → Contains (kids d c) k → P c k → P n k) where
+      (here : (n c : ℕ) → IsChild d n c → is_out d c ≡ false → ignored (spot d c) ≡ false → P n c)
+      (past : (n c k : ℕ) → IsChild d n c → is_out d c ≡ false → ignored (spot d c) ≡ true → Contains (kids d c) k → P c k → P n k) where
     by_taken : (n c k : ℕ) → IsChild d n c → (Contains (kids d c) k → P c k) → Contains (taken d c) k → P n k
-    by_taken n c k child below inside = go (is_pruned d c) (ignored (spot d c)) refl refl inside
+    by_taken n c k child below inside = go (is_out d c) (ignored (spot d c)) refl refl inside
       where
-        go : (x y : Bool) → is_pruned d c ≡ x → ignored (spot d c) ≡ y → Contains (cond x [] (cond y (kids d c) (c ∷ []))) k → P n k
+        go : (x y : Bool) → is_out d c ≡ x → ignored (spot d c) ≡ y → Contains (cond x [] (cond y (kids d c) (c ∷ []))) k → P n k
         go true y pruned skip inside = absurd (omega arith)
         go false true pruned skip inside = past n c k child pruned skip inside (below inside)
         go false false pruned skip (zero, low, is) = subst (P n) is (here n c child pruned skip)
@@ -70,9 +71,9 @@ module _ (d : Document) (t : IsTree d) where
   pub kids_shown : (n k : ℕ) → Contains (kids d n) k → ignored (spot d k) ≡ false
   kids_shown = by_kids (λ n k. ignored (spot d k) ≡ false) (λ n c child pruned skip. skip) (λ n c k child pruned skip inside more. more)
 
-  -- no kid is pruned
-  pub kids_unpruned : (n k : ℕ) → Contains (kids d n) k → is_pruned d k ≡ false
-  kids_unpruned = by_kids (λ n k. is_pruned d k ≡ false) (λ n c child pruned skip. pruned) (λ n c k child pruned skip inside more. more)
+  -- no kid is out
+  pub kids_visible : (n k : ℕ) → Contains (kids d n) k → is_out d k ≡ false
+  kids_visible = by_kids (λ n k. is_out d k ≡ false) (λ n c child pruned skip. pruned) (λ n c k child pruned skip inside more. more)
 
   -- what has kids is a node
   pub has_kids : (n k : ℕ) → Contains (kids d n) k → has d n ≡ true
@@ -120,7 +121,7 @@ module _ (d : Document) (t : IsTree d) where
 
   -- a kid comes from the children: it is one that is shown, or a kid of one
   from_child : (c k : ℕ) → Contains (taken d c) k → (c ≡ k) ⊎ Contains (kids d c) k
-  from_child c k inside = go (is_pruned d c) (ignored (spot d c)) inside
+  from_child c k inside = go (is_out d c) (ignored (spot d c)) inside
     where
       go : (x y : Bool) → Contains (cond x [] (cond y (kids d c) (c ∷ []))) k → (c ≡ k) ⊎ Contains (kids d c) k
       go true y inside = absurd (omega arith)
@@ -142,7 +143,7 @@ module _ (d : Document) (t : IsTree d) where
           same_one a b (sym (child_found n a child) ∙ sym (nearest_child a k below n (omega arith)) ∙ nearest_child b k under n (omega arith) ∙ child_found n b other)
 
   taken_once : (c : ℕ) → HasNoRepeats (kids d c) → HasNoRepeats (taken d c)
-  taken_once c once = go (is_pruned d c) (ignored (spot d c))
+  taken_once c once = go (is_out d c) (ignored (spot d c))
     where
       go : (x y : Bool) → HasNoRepeats (cond x [] (cond y (kids d c) (c ∷ [])))
       go true y i j low high same = absurd (omega arith)

@@ -1,17 +1,9 @@
 -- The objects of the tree (WAI-ARIA 1.2, section 7: including and excluding elements).
 use Rattle.std.specs.Prelude.{ℕ, Bool, if◌then◌else◌, List, [], ◌∷◌, flat_map}
-use Rattle.std.specs.List.{list_any}
 use Rattle.ax_base.specs.Recursion.{from_below}
-use Rattle.ax_base.specs.Document.{Document, spot, children, lineage, ancestors, root}
-use Rattle.ax_base.specs.Roles.{prunes, ignored}
-
--- whether an ancestor leaves out what is below it
-abbrev pub is_pruned : Document → ℕ → Bool
-is_pruned d n = list_any (λ a. prunes (spot d a)) (ancestors d n)
-
--- whether a node or an ancestor of it leaves out what is below
-abbrev pub is_shut : Document → ℕ → Bool
-is_shut d n = list_any (λ a. prunes (spot d a)) (lineage d n)
+use Rattle.ax_base.specs.Document.{Document, spot, children, root}
+use Rattle.ax_base.specs.Roles.{ignored}
+use Rattle.ax_base.specs.Context.{is_out}
 
 -- what decides how a child is taken: its id, whether it is left out with what is below it, and whether it is left out alone
 pub record Standing : Type 0 where
@@ -21,9 +13,9 @@ pub record Standing : Type 0 where
 
 -- how a node is taken
 abbrev pub standing : Document → ℕ → Standing
-standing d n = record { id = n; out = is_pruned d n; ignored = ignored (spot d n) }
+standing d n = record { id = n; out = is_out d n; ignored = ignored (spot d n) }
 
--- a pruned child gives nothing, an ignored child gives its kids, any other gives itself
+-- a child that is out gives nothing, an ignored child gives its kids, any other gives itself
 abbrev pub kids_from : Standing → List (Standing × List ℕ) → List ℕ
 kids_from n below = flat_map (λ c. if c.0.out then [] else (if c.0.ignored then c.1 else c.0.id ∷ [])) below
 
@@ -33,7 +25,7 @@ kids d n = from_below kids_from (standing d) (children d) 64 n
 
 -- what a child gives: nothing, its kids or itself
 abbrev pub taken : Document → ℕ → List ℕ
-taken d c = if is_pruned d c then [] else (if ignored (spot d c) then kids d c else c ∷ [])
+taken d c = if is_out d c then [] else (if ignored (spot d c) then kids d c else c ∷ [])
 
 -- what is made of each object out of itself and of its kids, with what is made of those
 abbrev pub from_kids : {A : Type 0} → (ℕ → List (ℕ × A) → A) → Document → ℕ → A

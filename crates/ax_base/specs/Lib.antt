@@ -6,6 +6,13 @@ pub mod Recursion
 pub mod Document
 pub mod Texts
 pub mod Trees
+pub mod Values
+pub mod Focusable
+pub mod KnownRoles
 pub mod Roles
+pub mod NamedRoles
+pub mod Rects
+pub mod States
+pub mod Context
 pub mod Kids
 pub mod Names

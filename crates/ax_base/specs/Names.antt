@@ -1,22 +1,17 @@
 -- Accessible names (AccName 1.2, section 4.3.2).
-use Rattle.std.specs.Prelude.{ℕ, Bool, true, false, ◌&&◌, if◌then◌else◌, [], ◌∷◌, codes, flat_map}
+use Rattle.std.specs.Prelude.{ℕ, ◌&&◌, if◌then◌else◌, [], ◌∷◌, codes, flat_map}
 use Rattle.ax_base.specs.declared.body.Body.{Body}
 use Rattle.ax_base.specs.declared.body.Body.TheVariants.{Element, Words}
 use Rattle.ax_base.specs.declared.role.Role.{Role}
-use Rattle.ax_base.specs.declared.role.Role.TheVariants.{Button}
 use Rattle.ax_base.specs.Characters.{Chars, is_blank, flat, cut, first_said}
 use Rattle.ax_base.specs.Document.{Document, spot, body, children, text_of}
 use Rattle.ax_base.specs.Roles.{role}
+use Rattle.ax_base.specs.NamedRoles.{names_from_content}
 
 -- what a node is called by itself: a text by its characters, an element by its `aria-label`, if that is not blank
 abbrev pub named : Body → Chars
 named (Words chars runs) = chars
 named (Element tag attrs frame) = first_said (text_of (codes "aria-label") (Element tag attrs frame) ∷ [])
-
--- the roles that are named from content (WAI-ARIA 1.2, section 5.2.8.6)
-abbrev pub names_from_content : Role → Bool
-names_from_content Button = true
-names_from_content _ = false
 
 -- the characters of a text; an element has none of its own
 abbrev pub words : Body → Chars

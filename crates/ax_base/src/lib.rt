@@ -3,28 +3,34 @@
 
 mod attrs;
 mod body;
+mod focusable;
 mod ids;
 mod lists;
 mod memory;
 mod notices;
+mod pieces;
 mod quote;
 mod rect;
 mod role;
 mod states;
 mod steps;
 mod text;
+mod values;
 mod white;
 
 pub use attrs::{Attr, Attrs};
 pub use body::Body;
+pub use focusable::{has_conflict, has_counted, has_tab_index, is_control, is_field, is_focusable};
 pub use ids::{Moment, ObjId, Who};
 pub use lists::{Ids, Runs};
 pub use memory::NoMemory;
 pub use notices::{Notice, NoticeKind, Notices};
+pub use pieces::first_token;
 pub use quote::push_quoted;
-pub use rect::{Rect, Run};
+pub use rect::{Rect, Run, contains_point, unite};
 pub use role::{Role, role_word};
 pub use states::{Checked, Live, States};
 pub use steps::Steps;
 pub use text::{Text, cap512};
+pub use values::{are_digits, is_blank, is_same_bytes, is_same_word, trimmed};
 pub use white::flat;

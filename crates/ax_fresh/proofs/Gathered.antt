@@ -2,19 +2,22 @@
 use Rattle.std.proofs.Common.{◌≡◌, ℕ, suc, ◌+◌, ◌-◌, ◌*◌, ◌<◌, ◌≤◌, List, [], ◌∷◌, ◌++◌, length, get_or, take, Bool, true, false, cond, ◌||◌, ◌==◌, Some, None, Contains, refl, sym, ap, ◌∙◌, subst, arith, append_assoc, append-nil, add-one}
 use Rattle.std.proofs.Math.Seq.{take-suc}
 use Rattle.std.proofs.lemmas.Grind.{common_steps}
-use Rattle.std.specs.List.{flat_map, list_any}
-use Rattle.std.specs.Option.{option_map_or}
+use Rattle.std.specs.List.{flat_map}
+use Rattle.std.specs.Option.{unwrap_or}
 use Rattle.std.specs.Ordering.{nat_cmp}
 use Rattle.std.specs.BTreeMap.{insert_entry}
 use Rattle.ax_base.specs.declared.body.Body.{Body}
 use Rattle.ax_base.specs.declared.role.Role.{Role}
-use Rattle.ax_base.specs.Document.{Document, has, root, depth, body, spot, children, lineage, IsChild}
+use Rattle.ax_base.specs.Document.{Document, has, root, depth, body, spot, children, IsChild}
 use Rattle.ax_base.specs.Trees.{IsTree}
-use Rattle.ax_base.specs.Roles.{role_of, prunes, is_pruning, ignored}
-use Rattle.ax_base.specs.Kids.{kids, taken, objects, is_pruned, is_shut}
+use Rattle.ax_base.specs.declared.states.Live.{Live}
+use Rattle.ax_base.specs.Roles.{role_of, hides, is_pruning, ignored}
+use Rattle.ax_base.specs.States.{live_by, sets_live}
+use Rattle.ax_base.specs.Context.{is_out, is_shut, live_at}
+use Rattle.ax_base.specs.Kids.{kids, taken, objects}
 use Rattle.ax_base.proofs.Membership.{Contains-head}
-use Rattle.ax_base.proofs.KidsLaws.{kids-children, pruned-child, shut-ancestors}
-use Rattle.ax_base.proofs.Places.{depth-level, has_children, parent-root}
+use Rattle.ax_base.proofs.KidsLaws.{kids-children, out-child, shut-prunes}
+use Rattle.ax_base.proofs.Places.{depth-level, has_children}
 use Rattle.ax_base.proofs.Joins.{Contains-flat_map}
 use Rattle.ax_base.proofs.Objects.{kids_are_objects}
 use Rattle.ax_dom.specs.declared.cell.Cell.{Cell}
@@ -34,9 +37,13 @@ flat_map-none f [] none = refl
 flat_map-none f (x ∷ xs) none =
     ap (λ l. l ++ flat_map f xs) (none x (Contains-head x xs)) ∙ flat_map-none f xs (λ y inside. none y (suc inside.0, (let h = inside.1 in omega arith), inside.2))
 
-or-false : (b : Bool) → (b || false) ≡ b
+pub or-false : (b : Bool) → (b || false) ≡ b
 or-false true = refl
 or-false false = refl
+
+or-true : (b : Bool) → (b || true) ≡ true
+or-true true = refl
+or-true false = refl
 
 pub child_of : (d : Document) (n k x : ℕ) (xs : List ℕ) → xs ≡ children d n → k < length xs → x ≡ get_or xs k x → IsChild d n x
 child_of d n k x xs same low is = subst (λ ys. Contains ys x) same (k, low, sym is)
@@ -60,16 +67,35 @@ module _ (d : Document) (t : IsTree d) where
   -- where nothing is shown below a node, it has no kids
   pub shut_kids : (n : ℕ) → is_shut d n ≡ true → kids d n ≡ []
   shut_kids n shut =
-      kids-children d t n ∙ flat_map-none (taken d) (children d n) (λ c child. ap (λ b. cond b [] (cond (ignored (spot d c)) (kids d c) (c ∷ []))) (pruned-child d t n c child ∙ shut))
+      kids-children d t n
+      ∙ flat_map-none (taken d) (children d n) (λ c child.
+      ap (λ b. cond b [] (cond (ignored (spot d c)) (kids d c) (c ∷ []))) (out-child d t n c child ∙ ap (λ b. hides (spot d c) || b) shut ∙ or-true (hides (spot d c))))
 
   -- a visible node is shut where its role prunes
-  pub shut_by_role : (n : ℕ) (r : Role) (b : Body) → has d n ≡ true → b ≡ body d n → r ≡ role_of (n == root) b → is_pruned d n ≡ false → is_pruning r ≡ is_shut d n
+  pub shut_by_role : (n : ℕ) (r : Role) (b : Body) → has d n ≡ true → b ≡ body d n → r ≡ role_of (n == root) b → is_out d n ≡ false → is_pruning r ≡ is_shut d n
   shut_by_role n r b there is_body is_role visible =
-      ap is_pruning (is_role ∙ ap (role_of (n == root)) is_body) ∙ sym (shut-ancestors d t n there ∙ (λ i. prunes (spot d n) || visible i) ∙ or-false (prunes (spot d n)))
+      ap is_pruning (is_role ∙ ap (role_of (n == root)) is_body) ∙ sym (shut-prunes d t n there visible)
 
-  -- the root is visible
-  pub root_visible : is_pruned d root ≡ false
-  root_visible = ap (λ o. list_any (λ a. prunes (spot d a)) (option_map_or (lineage d) o [])) (parent-root d t)
+  -- a child of a node whose inside is shown is out where it hides
+  pub out_by_itself : (n c : ℕ) → IsChild d n c → is_shut d n ≡ false → is_out d c ≡ hides (spot d c)
+  out_by_itself n c child visible = out-child d t n c child ∙ ap (λ b. hides (spot d c) || b) visible ∙ or-false (hides (spot d c))
+
+  hides_is : (n : ℕ) (b : Body) (h : Bool) → b ≡ body d n → h ≡ hides (record { id = n; body = b }) → hides (spot d n) ≡ h
+  hides_is n b h is_body hid = (λ i. hides (record { id = n; body = sym is_body i })) ∙ sym hid
+
+  -- a child that hides gives nothing
+  pub taken_hidden : (n : ℕ) (b : Body) (h : Bool) → b ≡ body d n → h ≡ hides (record { id = n; body = b }) → h ≡ true → is_out d n ≡ hides (spot d n) → taken d n ≡ []
+  taken_hidden n b h is_body hid on out = ap (λ x. cond x [] (cond (ignored (spot d n)) (kids d n) (n ∷ []))) (out ∙ hides_is n b h is_body hid ∙ on)
+
+  -- one that does not is visible
+  pub shown_child : (n : ℕ) (b : Body) (h : Bool) → b ≡ body d n → h ≡ hides (record { id = n; body = b }) → h ≡ false → is_out d n ≡ hides (spot d n) → is_out d n ≡ false
+  shown_child n b h is_body hid off out = out ∙ hides_is n b h is_body hid ∙ off
+
+  -- the live of a node, by what it sets and the live around it
+  pub live_is : (n : ℕ) (b : Body) (r : Role) (live_given around : Live) → b ≡ body d n → r ≡ role_of (n == root) b → live_given ≡ unwrap_or (live_by r b) around
+      → live_at d n ≡ unwrap_or (sets_live (spot d n)) around → live_given ≡ live_at d n
+  live_is n b r live_given around is_body is_role given is =
+      given ∙ (λ i. unwrap_or (live_by (is_role i) b) around) ∙ (λ i. unwrap_or (live_by (role_of (n == root) (is_body i)) (is_body i)) around) ∙ sym is
 
   -- the kids of a node from its children so far, and from the next one
   given : (n k c : ℕ) (cs : List ℕ) → k < length cs → c ≡ get_or cs k c → flat_map (taken d) (take (k + 1) cs) ≡ flat_map (taken d) (take k cs) ++ taken d c
@@ -110,20 +136,20 @@ module _ (d : Document) (t : IsTree d) where
   ignored_is n b skip is_body skips = (λ i. ignored (record { id = n; body = sym is_body i })) ∙ sym skips
 
   -- an ignored child gives its kids
-  pub taken_past : (n : ℕ) (b : Body) (skip : Bool) → b ≡ body d n → skip ≡ ignored (record { id = n; body = b }) → skip ≡ true → is_pruned d n ≡ false → taken d n ≡ kids d n
+  pub taken_past : (n : ℕ) (b : Body) (skip : Bool) → b ≡ body d n → skip ≡ ignored (record { id = n; body = b }) → skip ≡ true → is_out d n ≡ false → taken d n ≡ kids d n
   taken_past n b skip is_body skips on visible =
       (λ i. cond (visible i) [] (cond (ignored (spot d n)) (kids d n) (n ∷ []))) ∙ ap (λ x. cond x (kids d n) (n ∷ [])) (ignored_is n b skip is_body skips ∙ on)
 
   -- any other child gives itself
-  pub taken_self : (n : ℕ) (b : Body) (skip : Bool) → b ≡ body d n → skip ≡ ignored (record { id = n; body = b }) → skip ≡ false → is_pruned d n ≡ false → taken d n ≡ n ∷ []
+  pub taken_self : (n : ℕ) (b : Body) (skip : Bool) → b ≡ body d n → skip ≡ ignored (record { id = n; body = b }) → skip ≡ false → is_out d n ≡ false → taken d n ≡ n ∷ []
   taken_self n b skip is_body skips off visible =
       (λ i. cond (visible i) [] (cond (ignored (spot d n)) (kids d n) (n ∷ []))) ∙ ap (λ x. cond x (kids d n) (n ∷ [])) (ignored_is n b skip is_body skips ∙ off)
 
-  -- what is known of a child that is shown, by its cell: it is an object, the cell is the document's, its role is by it, it is visible, and it hangs on `above`
+  -- what is known of a child that is shown, by its cell: it is an object, the cell is the document's, its role is by it, it is visible and has this live, and it hangs on `above`
   pub child_object : (above n : ℕ) (x : Cell) (r : Role) (skip : Bool) → x ≡ cell_of d n → r ≡ role_of (n == root) x.body → skip ≡ ignored (record { id = n; body = x.body }) → skip ≡ false
-      → is_pruned d n ≡ false → AreKidsOf d above (taken d n)
-      → Contains (objects d) x.id × ((x ≡ cell_of d x.id) × ((r ≡ role_of (x.id == root) x.body) × ((is_pruned d x.id ≡ false) × (Some above ≡ holder d x.id))))
-  child_object above n x r skip cell is_role skips off visible (one, each) =
+      → is_out d n ≡ false → (live_given : Live) → live_given ≡ live_at d n → AreKidsOf d above (taken d n)
+      → Contains (objects d) x.id × ((x ≡ cell_of d x.id) × ((r ≡ role_of (x.id == root) x.body) × ((is_out d x.id ≡ false) × ((live_given ≡ live_at d x.id) × (Some above ≡ holder d x.id)))))
+  child_object above n x r skip cell is_role skips off visible live_given live_same (one, each) =
       let id_is : x.id ≡ n = ap (λ (y : Cell). y.id) cell in
       let gives : taken d n ≡ n ∷ [] = taken_self n x.body skip (ap (λ (y : Cell). y.body) cell) skips off visible in
       let kid : Contains (kids d above) n = each n (subst (λ l. Contains l n) (sym gives) (Contains-head n [])) in (
@@ -133,8 +159,11 @@ module _ (d : Document) (t : IsTree d) where
           (
             is_role ∙ ap (λ j. role_of (j == root) x.body) (sym id_is),
             (
-              ap (is_pruned d) id_is ∙ visible,
-              sym (ap (holder d) id_is ∙ holder_is d t above n one kid),
+              ap (is_out d) id_is ∙ visible,
+              (
+                live_same ∙ ap (live_at d) (sym id_is),
+                sym (ap (holder d) id_is ∙ holder_is d t above n one kid),
+              ),
             ),
           ),
         ),

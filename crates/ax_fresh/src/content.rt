@@ -1,15 +1,18 @@
 //! What is told of an object, from its node alone.
-ghost use Rattle.std.specs.Prelude.{◌≡◌, ◌==◌, IfOk};
+ghost use Rattle.std.specs.Prelude.{◌≡◌, ◌==◌, IfOk, option_copied};
 ghost use Rattle.ax_base.specs.Document.{root};
-ghost use Rattle.ax_base.specs.Roles.{role_of, role_by_tag, is_pruning, ignored, is_generic, is_blank_text};
+ghost use Rattle.ax_base.specs.Roles.{role_of, hides_body, hides, ignored_body, ignored};
+ghost use Rattle.ax_base.specs.States.{states_by, level_by, live_by, value_by};
+ghost use Rattle.ax_base.specs.Context.{live_at};
 ghost use Rattle.ax_base.specs.Kids.{kids};
 ghost use Rattle.ax_dom.specs.Slots.{cell_of};
-ghost use Rattle.ax_record.specs.Records.{record_of, holder, no_states, frame_of, chars_of, runs_of};
+ghost use Rattle.ax_record.specs.Records.{record_of, holder, frame_of, chars_of, runs_of};
 
 use crate::names::name_of;
 use ax_base::{Body, Ids, Live, NoMemory, ObjId, Rect, Role, Runs, States, Steps, Text};
 use ax_dom::{Cell, Dom};
 use ax_record::Record;
+use ax_states::live_set_by;
 use std::alloc::Global;
 use std::sync::ledger::Ledger;
 
@@ -19,12 +22,14 @@ pub fn record_of<L: Ledger>(
     dom: &Dom,
     cell: &Cell,
     role: Role,
+    live: Live,
     parent: Option<ObjId>,
     below: Ids,
     steps: &mut Steps<L>,
 ) -> Result<Record, NoMemory>
     requires cell { cell.now ≡ cell_of dom.now cell.now.id }
     requires role { role ≡ role_of (cell.now.id == root) cell.now.body }
+    requires live { live ≡ live_at dom.now cell.now.id }
     requires parent { parent ≡ holder dom.now cell.now.id }
     requires kids { below ≡ kids dom.now cell.now.id }
     ensures { IfOk result (λ r. r ≡ record_of dom.now cell.now.id) }
@@ -34,10 +39,10 @@ pub fn record_of<L: Ledger>(
         role,
         name: name_of(alloc, dom, cell, role, steps)?,
         description: Text::new(alloc),
-        value: None,
-        states: NO_STATES,
-        level: None,
-        live: Live::Off,
+        value: value_of(alloc, role, &cell.body)?,
+        states: states_of(role, &cell.body),
+        level: level_of(role, &cell.body),
+        live,
         frame: frame_of(&cell.body),
         text: chars_of(alloc, &cell.body)?,
         runs: runs_of(alloc, &cell.body)?,
@@ -59,6 +64,58 @@ const NO_STATES: States = States {
     invalid: false,
     busy: false,
 };
+
+/// The states of a node of a role; a text has none.
+fn states_of(role: Role, node: &Body) -> States
+    ensures { result ≡ states_by role node.now }
+{
+    match node {
+        Body::Element { tag, attrs, .. } => ax_states::states_of(role, tag.as_str(), attrs),
+        Body::Words { .. } => NO_STATES,
+    }
+}
+
+/// The level of a node of a role; a text has none.
+fn level_of(role: Role, node: &Body) -> Option<u16>
+    ensures { result ≡ level_by role node.now }
+{
+    match node {
+        Body::Element { tag, attrs, .. } => ax_states::level_of(role, tag.as_str(), attrs),
+        Body::Words { .. } => None,
+    }
+}
+
+/// The value of a node of a role; a text has none.
+fn value_of(alloc: Global, role: Role, node: &Body) -> Result<Option<Text>, NoMemory>
+    ensures { IfOk result (λ v. v ≡ value_by role node.now) }
+{
+    match node {
+        Body::Element { tag, attrs, .. } => {
+            copied(alloc, ax_states::value_of(role, tag.as_str(), attrs))
+        }
+        Body::Words { .. } => Ok(None),
+    }
+}
+
+/// A text, copied where there is one.
+fn copied(alloc: Global, text: Option<&Text>) -> Result<Option<Text>, NoMemory>
+    ensures { IfOk result (λ t. t ≡ option_copied text.entry) }
+{
+    match text {
+        Some(text) => Ok(Some(text.copy(alloc)?)),
+        None => Ok(None),
+    }
+}
+
+/// The live that a node of a role sets; a text sets none.
+pub fn live_by(role: Role, node: &Body) -> Option<Live>
+    ensures { result ≡ live_by role node.now }
+{
+    match node {
+        Body::Element { attrs, .. } => live_set_by(role, attrs),
+        Body::Words { .. } => None,
+    }
+}
 
 /// The frame of an element; a text has none of its own.
 fn frame_of(node: &Body) -> Rect
@@ -101,36 +158,30 @@ pub fn role_of(id: ObjId, node: &Body) -> Role
 {
     match node {
         Body::Words { .. } => Role::Text,
-        Body::Element { tag, .. } => {
+        Body::Element { tag, attrs, .. } => {
             if id.number() == 1 {
                 Role::Document
             } else {
-                role_by_tag(tag)
+                ax_roles::role_of(tag.as_str(), attrs)
             }
         }
     }
 }
 
-/// The role that a tag gives.
-fn role_by_tag(tag: &Text) -> Role
-    ensures { result ≡ role_by_tag tag.now }
+/// Whether a node leaves out itself and what is below it.
+pub fn hides(id: ObjId, node: &Body) -> bool
+    ensures { result ≡ hides (record { id = id; body = node.now }) }
 {
-    if tag.is("main") {
-        Role::Main
-    } else if tag.is("article") {
-        Role::Article
-    } else if tag.is("button") {
-        Role::Button
-    } else {
-        Role::Generic
-    }
+    id.number() != 1 && hides_body(node)
 }
 
-/// Whether a role leaves out what is below.
-pub fn is_pruning(role: Role) -> bool
-    ensures { result ≡ is_pruning role }
+fn hides_body(node: &Body) -> bool
+    ensures { result ≡ hides_body node.now }
 {
-    matches!(role, Role::Button)
+    match node {
+        Body::Element { tag, attrs, .. } => ax_roles::hides(tag.as_str(), attrs),
+        Body::Words { .. } => false,
+    }
 }
 
 /// Whether a node of that role is left out of the tree, but not what is below it.
@@ -138,20 +189,14 @@ pub fn is_ignored(id: ObjId, role: Role, node: &Body) -> bool
     requires { role ≡ role_of (id == root) node.now }
     ensures { result ≡ ignored (record { id = id; body = node.now }) }
 {
-    id.number() != 1 && (is_generic(role) || is_blank_text(node))
+    id.number() != 1 && is_ignored_body(role, node)
 }
 
-fn is_generic(role: Role) -> bool
-    ensures { result ≡ is_generic role }
-{
-    matches!(role, Role::Generic)
-}
-
-fn is_blank_text(node: &Body) -> bool
-    ensures { result ≡ is_blank_text node.now }
+fn is_ignored_body(role: Role, node: &Body) -> bool
+    ensures { result ≡ ignored_body role node.now }
 {
     match node {
+        Body::Element { attrs, .. } => ax_roles::is_ignored(role, attrs),
         Body::Words { chars, .. } => chars.is_blank(),
-        Body::Element { .. } => false,
     }
 }

@@ -1,13 +1,14 @@
 //! What an object is called.
 ghost use Rattle.std.specs.Prelude.{◌≡◌, ◌++◌, ◌==◌, IfOk, OnOk, OnErr, string_bytes};
-ghost use Rattle.ax_base.specs.Characters.{flat, cut, is_blank};
+ghost use Rattle.ax_base.specs.Characters.{flat, cut};
 ghost use Rattle.ax_base.specs.Document.{root, body};
 ghost use Rattle.ax_base.specs.Roles.{role_of};
-ghost use Rattle.ax_base.specs.Names.{named, names_from_content, words, joined_texts, name};
+ghost use Rattle.ax_base.specs.Names.{named, words, joined_texts, name};
 ghost use Rattle.ax_dom.specs.Slots.{cell_of};
 
-use ax_base::{Body, NoMemory, ObjId, Role, Steps, Text, cap512, flat};
+use ax_base::{Body, NoMemory, ObjId, Role, Steps, Text, cap512, flat, is_blank};
 use ax_dom::{Cell, Dom};
+use ax_roles::names_from_content;
 use std::alloc::Global;
 use std::sync::ledger::Ledger;
 
@@ -39,13 +40,6 @@ fn flat_and_cut(alloc: Global, text: &str) -> Result<Text, NoMemory>
     cap512(alloc, &whole)
 }
 
-/// Whether a text has nothing but white space.
-fn is_blank(text: &str) -> bool
-    ensures { result ≡ is_blank text.now }
-{
-    text.as_bytes().iter().all(|b| b.is_ascii_whitespace())
-}
-
 /// What a node is called by itself: a text by its characters, an element by its label, if that is not blank.
 fn named(node: &Body) -> &str
     ensures { result.now ≡ named node.now }
@@ -57,13 +51,6 @@ fn named(node: &Body) -> &str
             None => "",
         },
     }
-}
-
-/// Whether a role is named from content.
-fn names_from_content(role: Role) -> bool
-    ensures { result ≡ names_from_content role }
-{
-    matches!(role, Role::Button)
 }
 
 /// The texts among the children of a node, joined in order.

@@ -2,7 +2,7 @@
 ghost use Rattle.std.specs.Prelude.{◌≡◌};
 
 use crate::build;
-use ax_base::{Attr, Attrs, ObjId, Role, Steps, Text};
+use ax_base::{Attr, Attrs, Live, ObjId, Role, Steps, Text};
 use ax_dom::{Dom, Edit};
 use ax_record::{FreshTree, TreeView};
 use std::alloc::Global;
@@ -20,10 +20,23 @@ fn insert(
     tag: &str,
     label: &str,
 ) -> Result<(), Fail> {
+    insert_with(alloc, dom, id, into, tag, "aria-label", label)
+}
+
+/// Inserts an element with an attribute, as the last child.
+fn insert_with(
+    alloc: Global,
+    dom: &mut Dom,
+    id: u32,
+    into: u32,
+    tag: &str,
+    name: &str,
+    value: &str,
+) -> Result<(), Fail> {
     let mut attrs = Attrs::new(alloc);
     attrs.push(Attr {
-        name: Text::from_str(alloc, "aria-label")?,
-        value: Text::from_str(alloc, label)?,
+        name: Text::from_str(alloc, name)?,
+        value: Text::from_str(alloc, value)?,
     })?;
     dom.apply(
         alloc,
@@ -83,6 +96,44 @@ fn look<L: Ledger>(rt: &impl Abort, alloc: Global, dom: &Dom, blank: Blank) -> R
     assert!(rt; hangs(&tree, 12, 7, Role::Text, "Hi"));
     assert!(rt; tree.find(ObjId(10)).is_none() && tree.find(ObjId(13)).is_none());
     Ok(())
+}
+
+#[test]
+fn live_is_handed_down_and_what_hides_is_left_out(rt: HostRuntime) -> Result<(), Fail> {
+    let alloc = rt.alloc();
+    let mut dom = Dom::new(alloc)?;
+    insert_with(alloc, &mut dom, 4, 1, "div", "role", "status")?;
+    insert(alloc, &mut dom, 5, 4, "h3", "News")?;
+    insert_with(alloc, &mut dom, 6, 1, "main", "aria-hidden", "true")?;
+    say(alloc, &mut dom, 7, 6, "Hi")?;
+    look_at_news::<Brand>(&rt, alloc, &dom, Blank::new(1))
+}
+
+fn look_at_news<L: Ledger>(
+    rt: &impl Abort,
+    alloc: Global,
+    dom: &Dom,
+    blank: Blank,
+) -> Result<(), Fail>
+    requires name { blank.name ≡ L.name }
+    requires parts { blank.parts ≡ L.parts }
+    requires whole { blank.parts ≡ 1 }
+{
+    let (book, share) = blank.open::<L>();
+    let mut steps = Steps::new(book, share);
+    let tree = build(alloc, dom, &mut steps)?;
+    assert!(rt; hangs(&tree, 5, 4, Role::Heading, "News"));
+    assert!(rt; is_polite_heading(&tree, 5, 3));
+    assert!(rt; tree.find(ObjId(6)).is_none() && tree.find(ObjId(7)).is_none());
+    Ok(())
+}
+
+/// Whether an object has this level, and is told politely.
+fn is_polite_heading(tree: &FreshTree, id: u32, level: u16) -> bool {
+    match tree.find(ObjId(id)) {
+        Some(found) => found.level == Some(level) && found.live == Live::Polite,
+        None => false,
+    }
 }
 
 /// Whether an object hangs on another, and has a role and a name.

@@ -1,19 +1,22 @@
 //! The walk over a document that builds its tree.
-ghost use Rattle.std.specs.Prelude.{◌≡◌, ◌++◌, ◌==◌, IfOk, OnOk, IsTrue, false, Contains};
+ghost use Rattle.std.specs.Prelude.{◌≡◌, ◌++◌, ◌==◌, IfOk, OnOk, IsTrue, false, Contains, unwrap_or};
 ghost use Rattle.std.specs.List.{flat_map};
-ghost use Rattle.ax_base.specs.Document.{has, root};
+ghost use Rattle.ax_base.specs.Document.{has, root, spot};
 ghost use Rattle.ax_base.specs.Trees.{IsTree};
-ghost use Rattle.ax_base.specs.Roles.{role_of};
-ghost use Rattle.ax_base.specs.Kids.{kids, taken, objects, is_pruned, is_shut};
+ghost use Rattle.ax_base.specs.Roles.{role_of, hides};
+ghost use Rattle.ax_base.specs.States.{sets_live};
+ghost use Rattle.ax_base.specs.Context.{is_out, is_shut, live_at};
+ghost use Rattle.ax_base.specs.Kids.{kids, taken, objects};
 ghost use Rattle.ax_dom.specs.Slots.{cell_of};
 ghost use Rattle.ax_record.specs.Records.{tree, holder};
 ghost use Rattle.ax_fresh.specs.Gathering.{with_records, put_order, AreKidsOf};
 
-use crate::content::{is_ignored, is_pruning, record_of, role_of};
+use crate::content::{hides, is_ignored, live_by, record_of, role_of};
 use crate::focus::focused_object;
-use ax_base::{Ids, NoMemory, ObjId, Role, Steps};
+use ax_base::{Ids, Live, NoMemory, ObjId, Role, Steps};
 use ax_dom::{Cell, Dom};
 use ax_record::{FreshTree, RecordMap};
+use ax_roles::prunes;
 use std::alloc::Global;
 use std::sync::ledger::Ledger;
 
@@ -45,7 +48,8 @@ fn put_root<L: Ledger>(
         return Ok(());
     };
     let role = role_of(cell.id, &cell.body);
-    put_object(alloc, dom, cell, role, None, records, steps)
+    let live = live_by(role, &cell.body).unwrap_or(Live::Off);
+    put_object(alloc, dom, cell, role, live, None, records, steps)
 }
 
 /// Puts in the records of all objects below an object, and then that of the object.
@@ -55,6 +59,7 @@ fn put_object<L: Ledger>(
     dom: &Dom,
     cell: &Cell,
     role: Role,
+    live: Live,
     parent: Option<ObjId>,
     records: &mut RecordMap,
     steps: &mut Steps<L>,
@@ -63,15 +68,16 @@ fn put_object<L: Ledger>(
     requires object { Contains (objects dom.now) cell.now.id }
     requires cell { cell.now ≡ cell_of dom.now cell.now.id }
     requires role { role ≡ role_of (cell.now.id == root) cell.now.body }
-    requires visible { is_pruned dom.now cell.now.id ≡ false }
+    requires visible { is_out dom.now cell.now.id ≡ false }
+    requires live { live ≡ live_at dom.now cell.now.id }
     requires parent { parent ≡ holder dom.now cell.now.id }
     ensures { OnOk result (records.new ≡ with_records dom.now records.old (put_order dom.now cell.now.id)) }
 {
     let id = cell.id;
-    let shut = is_pruning(role);
+    let shut = prunes(role);
     let mut below = Ids::new(alloc);
-    gather_inside(alloc, dom, id, shut, id, &mut below, records, steps)?;
-    let object = record_of(alloc, dom, cell, role, parent, below, steps)?;
+    gather_inside(alloc, dom, id, shut, live, id, &mut below, records, steps)?;
+    let object = record_of(alloc, dom, cell, role, live, parent, below, steps)?;
     records.put(object)
 }
 
@@ -83,6 +89,7 @@ fn gather_inside<L: Ledger>(
     dom: &Dom,
     node: ObjId,
     shut: bool,
+    live: Live,
     above: ObjId,
     found: &mut Ids,
     records: &mut RecordMap,
@@ -91,6 +98,7 @@ fn gather_inside<L: Ledger>(
     requires tree { IsTree dom.now }
     requires known { IsTrue (has dom.now node) }
     requires shut { shut ≡ is_shut dom.now node }
+    requires live { live ≡ live_at dom.now node }
     requires hung { AreKidsOf dom.now above (kids dom.now node) }
     ensures kids { OnOk result (found.new ≡ found.old ++ kids dom.now node) }
     ensures records { OnOk result (records.new ≡ with_records dom.now records.old (flat_map (put_order dom.now) (kids dom.now node))) }
@@ -98,7 +106,7 @@ fn gather_inside<L: Ledger>(
     if shut {
         return Ok(());
     }
-    gather(alloc, dom, node, above, found, records, steps)
+    gather(alloc, dom, node, live, above, found, records, steps)
 }
 
 /// Adds the kids of a node to a list, and puts in the records of all objects at or below them. They hang on `above`.
@@ -107,6 +115,7 @@ fn gather<L: Ledger>(
     alloc: Global,
     dom: &Dom,
     node: ObjId,
+    live: Live,
     above: ObjId,
     found: &mut Ids,
     records: &mut RecordMap,
@@ -114,30 +123,33 @@ fn gather<L: Ledger>(
 ) -> Result<(), NoMemory>
     requires known { IsTrue (has dom.now node) }
     requires visible { is_shut dom.now node ≡ false }
+    requires live { live ≡ live_at dom.now node }
     requires hung { AreKidsOf dom.now above (kids dom.now node) }
     ensures kids { OnOk result (found.new ≡ found.old ++ kids dom.now node) }
     ensures records { OnOk result (records.new ≡ with_records dom.now records.old (flat_map (put_order dom.now) (kids dom.now node))) }
 {
     for child in dom.children(node, steps) {
-        gather_child(alloc, dom, *child, above, found, records, steps)?;
+        gather_child(alloc, dom, *child, live, above, found, records, steps)?;
     }
     Ok(())
 }
 
 /// Adds what a child gives to a list, and puts in the records of all objects at or below that: of itself, or, where it is
-/// ignored, of its kids.
+/// ignored, of its kids; a child that hides gives nothing. The live around it is that of its parent.
 #[cycle(walk)]
 fn gather_child<L: Ledger>(
     alloc: Global,
     dom: &Dom,
     child: ObjId,
+    around: Live,
     above: ObjId,
     found: &mut Ids,
     records: &mut RecordMap,
     steps: &mut Steps<L>,
 ) -> Result<(), NoMemory>
     requires known { IsTrue (has dom.now child) }
-    requires visible { is_pruned dom.now child ≡ false }
+    requires visible { is_out dom.now child ≡ hides (spot dom.now child) }
+    requires around { live_at dom.now child ≡ unwrap_or (sets_live (spot dom.now child)) around }
     requires hung { AreKidsOf dom.now above (taken dom.now child) }
     ensures kids { OnOk result (found.new ≡ found.old ++ taken dom.now child) }
     ensures records { OnOk result (records.new ≡ with_records dom.now records.old (flat_map (put_order dom.now) (taken dom.now child))) }
@@ -145,11 +157,15 @@ fn gather_child<L: Ledger>(
     let Some(cell) = dom.cell(child, steps) else {
         return Ok(());
     };
-    let role = role_of(child, &cell.body);
-    if is_ignored(child, role, &cell.body) {
-        let shut = is_pruning(role);
-        return gather_inside(alloc, dom, child, shut, above, found, records, steps);
+    if hides(child, &cell.body) {
+        return Ok(());
     }
-    put_object(alloc, dom, cell, role, Some(above), records, steps)?;
+    let role = role_of(child, &cell.body);
+    let live = live_by(role, &cell.body).unwrap_or(around);
+    if is_ignored(child, role, &cell.body) {
+        let shut = prunes(role);
+        return gather_inside(alloc, dom, child, shut, live, above, found, records, steps);
+    }
+    put_object(alloc, dom, cell, role, live, Some(above), records, steps)?;
     found.push(child)
 }

@@ -1,35 +1,20 @@
 -- The tree of a document.
-use Rattle.std.specs.Prelude.{ℕ, pos, Bool, false, List, [], map, filter, find, Option, Some, None, nat_eq}
+use Rattle.std.specs.Prelude.{ℕ, pos, Bool, List, [], map, filter, find, Option, Some, None, nat_eq}
 use Rattle.std.specs.List.{list_any}
 use Rattle.std.specs.Option.{option_and_then}
 use Rattle.ax_base.specs.declared.body.Body.{Body}
 use Rattle.ax_base.specs.declared.body.Body.TheVariants.{Element, Words}
 use Rattle.ax_base.specs.declared.rect.Rect.{Rect}
 use Rattle.ax_base.specs.declared.rect.Run.{Run}
-use Rattle.ax_base.specs.declared.states.States.{States}
-use Rattle.ax_base.specs.declared.states.Live.TheVariants.{Off}
 use Rattle.ax_base.specs.Characters.{Chars}
 use Rattle.ax_base.specs.Document.{Document, spot, body, ids, lineage}
 use Rattle.ax_base.specs.Roles.{role}
+use Rattle.ax_base.specs.States.{value, states, level}
+use Rattle.ax_base.specs.Context.{live_at}
 use Rattle.ax_base.specs.Names.{name}
 use Rattle.ax_base.specs.Kids.{kids, objects}
 use Rattle.ax_record.specs.declared.record.Record.{Record}
 use Rattle.ax_record.specs.Tree.{Tree}
-
--- no state at all
-abbrev pub no_states : States
-no_states = record {
-  focusable = false;
-  disabled = false;
-  checked = None;
-  expanded = None;
-  selected = None;
-  pressed = None;
-  required = false;
-  readonly = false;
-  invalid = false;
-  busy = false;
-}
 
 -- the frame of an element; a text has none of its own
 abbrev pub frame_of : Body → Rect
@@ -57,10 +42,10 @@ record_of d n = record {
   role = role (spot d n);
   name = name d n;
   description = [];
-  value = None;
-  states = no_states;
-  level = None;
-  live = Off;
+  value = value (spot d n);
+  states = states (spot d n);
+  level = level (spot d n);
+  live = live_at d n;
   frame = frame_of (body d n);
   text = chars_of (body d n);
   runs = runs_of (body d n);

@@ -20,8 +20,10 @@ use Rattle.story_check.specs.declared.story.ClientLine.TheVariants.{Ask, Again, 
 use Rattle.story_check.specs.Stories.{Script}
 use Rattle.ax_answer.specs.Answers.{is_answered}
 use Rattle.ax_world.specs.Moments.{AreAnswered, is_answered_line}
-use Rattle.ax_session.specs.Built.{inserts_button, inserts_text, is_button, is_text, is_built_edit, is_built_request, is_built_line, are_built_attrs, is_built_tag, changes, edits_of, is_built}
-use Rattle.ax_session.specs.Kinds.{Ids, no_ids, holds, after_edit, after_edits, has_built_parts}
+use Rattle.ax_session.specs.declared.words.Command.{Command}
+use Rattle.ax_session.specs.declared.words.Command.TheVariants.{Dump, Replay}
+use Rattle.ax_session.specs.Built.{inserts_button, inserts_text, is_button, is_text, is_plain_edit, is_plain_request, is_plain_line, are_plain_attrs, is_plain_tag, changes, edits_of, is_plain, is_nameless_request, is_nameless_line, is_nameless, is_built_for}
+use Rattle.ax_session.specs.Kinds.{Ids, no_ids, holds, after_edit, after_edits, has_plain_parts}
 
 or_assoc : (a b c : Bool) → ((a || b) || c) ≡ (a || (b || c))
 or_assoc true b c = refl
@@ -92,10 +94,10 @@ gathered s start mid last base page first b p m l =
     ∙ ap (λ ids. after_edits ids (changes s.page)) (m ∙ ap (after_edits start) b ∙ ap (λ ids. after_edits ids s.base) first)
     ∙ gathered_both no_ids s.base (changes s.page)
 
--- the edits that are built, by two tests that agree
+-- the plain edits, by two tests that agree
 module _ (f g t u : ℕ → Bool) (buttons : (n : ℕ) → f n ≡ g n) (texts : (n : ℕ) → t n ≡ u n) where
-  same_edit : (e : Edit) → is_built_edit f t e ≡ is_built_edit g u e
-  same_edit (InsertElement id into before tag attrs) = ap (λ b. is_built_tag tag && are_built_attrs attrs && not b) (buttons into)
+  same_edit : (e : Edit) → is_plain_edit f t e ≡ is_plain_edit g u e
+  same_edit (InsertElement id into before tag attrs) = ap (λ b. is_plain_tag tag && are_plain_attrs attrs && not b) (buttons into)
   same_edit (InsertText id into before chars) = refl
   same_edit (Remove id) = refl
   same_edit (Move id into before) = ap (λ b. b || not (f into)) (texts id) ∙ ap (λ b. u id || not b) (buttons into)
@@ -106,57 +108,103 @@ module _ (f g t u : ℕ → Bool) (buttons : (n : ℕ) → f n ≡ g n) (texts :
   same_edit (NewFrame id rect) = refl
   same_edit (NewFocus id) = refl
 
-  same_edits : (es : List Edit) → list_all (is_built_edit f t) es ≡ list_all (is_built_edit g u) es
+  same_edits : (es : List Edit) → list_all (is_plain_edit f t) es ≡ list_all (is_plain_edit g u) es
   same_edits [] = refl
-  same_edits (e ∷ es) = ap (λ b. b && list_all (is_built_edit f t) es) (same_edit e) ∙ ap (λ b. is_built_edit g u e && b) (same_edits es)
+  same_edits (e ∷ es) = ap (λ b. b && list_all (is_plain_edit f t) es) (same_edit e) ∙ ap (λ b. is_plain_edit g u e && b) (same_edits es)
 
--- the parts are built by what was gathered exactly where the story is built
-pub built_is : (s : Script) (built : Bool) → built ≡ has_built_parts (after_edits no_ids (edits_of s)) s → built ≡ is_built s
-unfolding is_built
-built_is s built h =
+-- the parts are plain by what was gathered exactly where the story is plain
+pub plain_is : (s : Script) (plain : Bool) → plain ≡ has_plain_parts (after_edits no_ids (edits_of s)) s → plain ≡ is_plain s
+unfolding is_plain
+plain_is s plain h =
     let es = edits_of s in
     let ids = after_edits no_ids es in
     h
-    ∙ ap (λ b. b && list_all is_built_line s.client) (sym (list_all-append (is_built_edit (holds ids.buttons) (holds ids.texts)) s.base (changes s.page)))
-    ∙ ap (λ b. b && list_all is_built_line s.client) (same_edits (holds ids.buttons) (is_button es) (holds ids.texts) (is_text es) (λ n. buttons_after n no_ids es) (λ n. texts_after n no_ids es) es)
+    ∙ ap (λ b. b && list_all is_plain_line s.client) (sym (list_all-append (is_plain_edit (holds ids.buttons) (holds ids.texts)) s.base (changes s.page)))
+    ∙ ap (λ b. b && list_all is_plain_line s.client) (same_edits (holds ids.buttons) (is_button es) (holds ids.texts) (is_text es) (λ n. buttons_after n no_ids es) (λ n. texts_after n no_ids es) es)
 
-answered_request : (q : Request) → is_built_request q ≡ true → IsTrue (is_answered q)
-answered_request Root h = refl
-answered_request Focus h = refl
-answered_request (Role id) h = refl
-answered_request (Name id) h = refl
-answered_request (Description id) h = refl
-answered_request (Value id) h = refl
-answered_request (States id) h = refl
-answered_request (Level id) h = refl
-answered_request (Live id) h = refl
-answered_request (Frame id) h = refl
-answered_request (Parent id) h = refl
-answered_request (Children id from) h = refl
-answered_request (Compare a b) h = h
-answered_request (NextChar at) h = h
-answered_request (PrevChar at) h = h
-answered_request (NextWord at) h = h
-answered_request (LineAt at) h = h
-answered_request (TextOf from to) h = h
-answered_request (BoundsOf from to) h = h
-answered_request (Search r) h = h
-answered_request (Hit x y) h = h
+plain_request : (q : Request) → is_plain_request q ≡ true → IsTrue (is_answered q)
+plain_request Root h = refl
+plain_request Focus h = refl
+plain_request (Role id) h = refl
+plain_request (Name id) h = refl
+plain_request (Description id) h = refl
+plain_request (Value id) h = refl
+plain_request (States id) h = refl
+plain_request (Level id) h = refl
+plain_request (Live id) h = refl
+plain_request (Frame id) h = refl
+plain_request (Parent id) h = refl
+plain_request (Children id from) h = refl
+plain_request (Compare a b) h = h
+plain_request (NextChar at) h = h
+plain_request (PrevChar at) h = h
+plain_request (NextWord at) h = h
+plain_request (LineAt at) h = h
+plain_request (TextOf from to) h = h
+plain_request (BoundsOf from to) h = h
+plain_request (Search r) h = h
+plain_request (Hit x y) h = h
 
-answered_line : (x : ClientLine) → is_built_line x ≡ true → IsTrue (is_answered_line x)
-answered_line (Ask q) h = answered_request q h
-answered_line (Again q) h = answered_request q h
-answered_line Hear h = refl
-answered_line (Await a) h = refl
-answered_line Notices h = refl
+plain_line : (x : ClientLine) → is_plain_line x ≡ true → IsTrue (is_answered_line x)
+plain_line (Ask q) h = plain_request q h
+plain_line (Again q) h = plain_request q h
+plain_line Hear h = refl
+plain_line (Await a) h = refl
+plain_line Notices h = refl
 
 right_of : (a b : Bool) → (a && b) ≡ true → b ≡ true
 right_of true b h = h
 right_of false b h = absurd (false≢true h)
 
--- the requests of a story that is built are all answered
-pub built_is_answered : (s : Script) → is_built s ≡ true → AreAnswered s.client
-unfolding is_built
-built_is_answered s h =
-    All-weaker (λ x. is_built_line x ≡ true) (λ x. IsTrue (is_answered_line x)) answered_line s.client
-    (AllPass-from_list_all is_built_line s.client (right_of _ (list_all is_built_line s.client) h))
+-- the requests of a plain story are all answered
+plain_is_answered : (s : Script) → is_plain s ≡ true → AreAnswered s.client
+unfolding is_plain
+plain_is_answered s h =
+    All-weaker (λ x. is_plain_line x ≡ true) (λ x. IsTrue (is_answered_line x)) plain_line s.client
+    (AllPass-from_list_all is_plain_line s.client (right_of _ (list_all is_plain_line s.client) h))
+
+nameless_request : (q : Request) → is_nameless_request q ≡ true → IsTrue (is_answered q)
+nameless_request Root h = refl
+nameless_request Focus h = refl
+nameless_request (Role id) h = refl
+nameless_request (Name id) h = refl
+nameless_request (Description id) h = refl
+nameless_request (Value id) h = refl
+nameless_request (States id) h = refl
+nameless_request (Level id) h = refl
+nameless_request (Live id) h = refl
+nameless_request (Frame id) h = refl
+nameless_request (Parent id) h = refl
+nameless_request (Children id from) h = refl
+nameless_request (Compare a b) h = h
+nameless_request (NextChar at) h = h
+nameless_request (PrevChar at) h = h
+nameless_request (NextWord at) h = h
+nameless_request (LineAt at) h = h
+nameless_request (TextOf from to) h = h
+nameless_request (BoundsOf from to) h = h
+nameless_request (Search r) h = h
+nameless_request (Hit x y) h = h
+
+nameless_line : (x : ClientLine) → is_nameless_line x ≡ true → IsTrue (is_answered_line x)
+nameless_line (Ask q) h = nameless_request q h
+nameless_line (Again q) h = nameless_request q h
+nameless_line Hear h = refl
+nameless_line (Await a) h = refl
+nameless_line Notices h = refl
+
+-- the requests of a nameless story are all answered
+nameless_is_answered : (s : Script) → is_nameless s ≡ true → AreAnswered s.client
+nameless_is_answered s h =
+    All-weaker (λ x. is_nameless_line x ≡ true) (λ x. IsTrue (is_answered_line x)) nameless_line s.client
+    (AllPass-from_list_all is_nameless_line s.client h)
+
+either_answered : (s : Script) (nameless : Bool) → nameless ≡ is_nameless s → (nameless || is_plain s) ≡ true → AreAnswered s.client
+either_answered s true is h = nameless_is_answered s (sym is)
+either_answered s false is h = plain_is_answered s h
+
+-- the requests of a story that is built for some command are all answered
+pub built_is_answered : (command : Command) (s : Script) → is_built_for command s ≡ true → AreAnswered s.client
+unfolding is_built_for
+built_is_answered Dump s h = plain_is_answered s h
+built_is_answered Replay s h = either_answered s (is_nameless s) refl h

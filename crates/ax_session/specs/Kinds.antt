@@ -8,7 +8,7 @@ use Rattle.std.specs.BTreeSet.{insert_key}
 use Rattle.ax_dom.specs.declared.edit.Edit.{Edit}
 use Rattle.ax_dom.specs.declared.edit.Edit.TheVariants.{InsertElement, InsertText}
 use Rattle.story_check.specs.Stories.{Script}
-use Rattle.ax_session.specs.Built.{is_built_edit, is_built_line, changes}
+use Rattle.ax_session.specs.Built.{is_plain_edit, is_plain_line, changes}
 
 -- the rising lists of the ids that were inserted as buttons and as texts
 pub record Ids : Type 0 where
@@ -33,6 +33,6 @@ abbrev pub after_edits : Ids → List Edit → Ids
 after_edits ids [] = ids
 after_edits ids (e ∷ es) = after_edits (after_edit ids e) es
 
--- the parts of a story are built, where these are its buttons and texts
-abbrev pub has_built_parts : Ids → Script → Bool
-has_built_parts ids s = list_all (is_built_edit (holds ids.buttons) (holds ids.texts)) s.base && list_all (is_built_edit (holds ids.buttons) (holds ids.texts)) (changes s.page) && list_all is_built_line s.client
+-- the parts of a story are plain, where these are its buttons and texts
+abbrev pub has_plain_parts : Ids → Script → Bool
+has_plain_parts ids s = list_all (is_plain_edit (holds ids.buttons) (holds ids.texts)) s.base && list_all (is_plain_edit (holds ids.buttons) (holds ids.texts)) (changes s.page) && list_all is_plain_line s.client

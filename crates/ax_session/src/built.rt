@@ -1,9 +1,11 @@
-//! Which accepted stories are built today.
-ghost use Rattle.std.specs.Prelude.{◌≡◌, ◌++◌, IfOk, OnOk};
+//! Which accepted stories are built today, by command.
+ghost use Rattle.std.specs.Prelude.{◌≡◌, ◌++◌, ◌||◌, IfOk, OnOk};
 ghost use Rattle.std.specs.List.{list_all};
-ghost use Rattle.ax_session.specs.Built.{is_built_tag, is_built_name, are_built_attrs, is_built_edit, is_built_request, is_built_line, changes, edits_of, is_built};
-ghost use Rattle.ax_session.specs.Kinds.{no_ids, holds, after_edit, after_edits, has_built_parts};
+ghost use Rattle.ax_session.specs.Built.{is_plain_tag, is_plain_name, are_plain_attrs, is_plain_edit, is_plain_request, is_plain_line, changes, edits_of, is_plain, is_nameless, is_built_for};
+ghost use Rattle.ax_session.specs.Kinds.{no_ids, holds, after_edit, after_edits, has_plain_parts};
 
+use crate::Command;
+use crate::nameless::is_nameless;
 use ax_ask::Request;
 use ax_base::{Attrs, NoMemory, ObjId, Text};
 use ax_dom::Edit;
@@ -68,23 +70,46 @@ impl Kinds {
     }
 }
 
-/// Whether a story is built today, if it is accepted. It reads each line twice, and looks ids up in trees. The only error is
-/// want of memory.
-#[tactic(auto, unfolding(crate::specs::Built::is_built))]
-pub fn is_built(alloc: Global, story: &Story) -> Result<bool, NoMemory>
-    ensures { IfOk result (λ built. built ≡ is_built story.now) }
+/// Whether a story is built today for a command, if it is accepted. The only error is want of memory.
+#[tactic(auto, unfolding(crate::specs::Built::is_built_for))]
+pub fn is_built_for(alloc: Global, command: Command, story: &Story) -> Result<bool, NoMemory>
+    ensures { IfOk result (λ built. built ≡ is_built_for command story.now) }
 {
-    let kinds = kinds_of(alloc, story)?;
-    Ok(has_built_parts(&kinds, story))
+    match command {
+        Command::Dump => is_plain(alloc, story),
+        Command::Replay => is_nameless_or_plain(alloc, story),
+    }
 }
 
-/// Whether all lines of a story are built, where these are its buttons and texts.
-fn has_built_parts(kinds: &Kinds, story: &Story) -> bool
-    ensures { result ≡ has_built_parts kinds.now story.now }
+/// Whether the client of a story asks for no name, or the story is plain. The only error is want of memory.
+fn is_nameless_or_plain(alloc: Global, story: &Story) -> Result<bool, NoMemory>
+    ensures { IfOk result (λ built. built ≡ (is_nameless story.now || is_plain story.now)) }
 {
-    are_built_edits(kinds, story.base())
-        && are_built_changes(kinds, story.page())
-        && are_built_lines(story.client())
+    if is_nameless(story) {
+        Ok(true)
+    } else {
+        is_plain(alloc, story)
+    }
+}
+
+/// Whether a story is plain: its elements are regions and buttons with labels at most, and its client asks for the root, the
+/// focus, roles, names, parents and children alone. It reads each line twice, and looks ids up in trees. The only error is want
+/// of memory.
+#[tactic(auto, unfolding(crate::specs::Built::is_plain))]
+fn is_plain(alloc: Global, story: &Story) -> Result<bool, NoMemory>
+    ensures { IfOk result (λ plain. plain ≡ is_plain story.now) }
+{
+    let kinds = kinds_of(alloc, story)?;
+    Ok(has_plain_parts(&kinds, story))
+}
+
+/// Whether all lines of a story are plain, where these are its buttons and texts.
+fn has_plain_parts(kinds: &Kinds, story: &Story) -> bool
+    ensures { result ≡ has_plain_parts kinds.now story.now }
+{
+    are_plain_edits(kinds, story.base())
+        && are_plain_changes(kinds, story.page())
+        && are_plain_lines(story.client())
 }
 
 /// The buttons and texts of a story.
@@ -119,19 +144,19 @@ fn note_changes(kinds: &mut Kinds, page: &[PageLine]) -> Result<(), NoMemory>
     Ok(())
 }
 
-fn are_built_edits(kinds: &Kinds, edits: &[Edit]) -> bool
-    ensures { result ≡ list_all (is_built_edit (holds kinds.now.buttons) (holds kinds.now.texts)) edits.now }
+fn are_plain_edits(kinds: &Kinds, edits: &[Edit]) -> bool
+    ensures { result ≡ list_all (is_plain_edit (holds kinds.now.buttons) (holds kinds.now.texts)) edits.now }
 {
-    edits.iter().all(|edit| is_built_edit(kinds, edit))
+    edits.iter().all(|edit| is_plain_edit(kinds, edit))
 }
 
-fn are_built_changes(kinds: &Kinds, page: &[PageLine]) -> bool
-    ensures { result ≡ list_all (is_built_edit (holds kinds.now.buttons) (holds kinds.now.texts)) (changes page.now) }
+fn are_plain_changes(kinds: &Kinds, page: &[PageLine]) -> bool
+    ensures { result ≡ list_all (is_plain_edit (holds kinds.now.buttons) (holds kinds.now.texts)) (changes page.now) }
 {
     for line in page {
         match line {
             PageLine::Change(edit) => {
-                if !is_built_edit(kinds, edit) {
+                if !is_plain_edit(kinds, edit) {
                     return false;
                 }
             }
@@ -142,8 +167,8 @@ fn are_built_changes(kinds: &Kinds, page: &[PageLine]) -> bool
     true
 }
 
-fn is_built_edit(kinds: &Kinds, edit: &Edit) -> bool
-    ensures { result ≡ is_built_edit (holds kinds.now.buttons) (holds kinds.now.texts) edit.now }
+fn is_plain_edit(kinds: &Kinds, edit: &Edit) -> bool
+    ensures { result ≡ is_plain_edit (holds kinds.now.buttons) (holds kinds.now.texts) edit.now }
 {
     match edit {
         Edit::InsertElement {
@@ -151,11 +176,11 @@ fn is_built_edit(kinds: &Kinds, edit: &Edit) -> bool
             tag,
             attrs,
             ..
-        } => is_built_tag(tag) && are_built_attrs(attrs) && !kinds.is_button(*into),
+        } => is_plain_tag(tag) && are_plain_attrs(attrs) && !kinds.is_button(*into),
         Edit::InsertText { .. } => true,
         Edit::Remove(_) => true,
         Edit::Move { id, into, .. } => kinds.is_text(*id) || !kinds.is_button(*into),
-        Edit::Set { name, .. } => is_built_name(name),
+        Edit::Set { name, .. } => is_plain_name(name),
         Edit::Unset { .. } => true,
         Edit::Chars { .. } => true,
         Edit::SetRuns { .. } => true,
@@ -164,47 +189,47 @@ fn is_built_edit(kinds: &Kinds, edit: &Edit) -> bool
     }
 }
 
-fn is_built_tag(tag: &Text) -> bool
-    ensures { result ≡ is_built_tag tag.now }
+fn is_plain_tag(tag: &Text) -> bool
+    ensures { result ≡ is_plain_tag tag.now }
 {
     tag.is("main") || tag.is("article") || tag.is("button")
 }
 
-fn are_built_attrs(attrs: &Attrs) -> bool
-    ensures { result ≡ are_built_attrs attrs.now }
+fn are_plain_attrs(attrs: &Attrs) -> bool
+    ensures { result ≡ are_plain_attrs attrs.now }
 {
     attrs
         .as_slice()
         .iter()
-        .all(|attr| is_built_name(&attr.name))
+        .all(|attr| is_plain_name(&attr.name))
 }
 
-fn is_built_name(name: &Text) -> bool
-    ensures { result ≡ is_built_name name.now }
+fn is_plain_name(name: &Text) -> bool
+    ensures { result ≡ is_plain_name name.now }
 {
     name.is("aria-label")
 }
 
-fn are_built_lines(client: &[ClientLine]) -> bool
-    ensures { result ≡ list_all is_built_line client.now }
+fn are_plain_lines(client: &[ClientLine]) -> bool
+    ensures { result ≡ list_all is_plain_line client.now }
 {
-    client.iter().all(is_built_line)
+    client.iter().all(is_plain_line)
 }
 
-fn is_built_line(line: &ClientLine) -> bool
-    ensures { result ≡ is_built_line line.now }
+fn is_plain_line(line: &ClientLine) -> bool
+    ensures { result ≡ is_plain_line line.now }
 {
     match line {
-        ClientLine::Ask(request) => is_built_request(request),
-        ClientLine::Again(request) => is_built_request(request),
+        ClientLine::Ask(request) => is_plain_request(request),
+        ClientLine::Again(request) => is_plain_request(request),
         ClientLine::Hear => true,
         ClientLine::Await(_) => true,
         ClientLine::Notices => false,
     }
 }
 
-fn is_built_request(request: &Request) -> bool
-    ensures { result ≡ is_built_request request.now }
+fn is_plain_request(request: &Request) -> bool
+    ensures { result ≡ is_plain_request request.now }
 {
     match request {
         Request::Root

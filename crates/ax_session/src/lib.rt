@@ -3,6 +3,7 @@
 
 mod built;
 mod dump;
+mod nameless;
 mod refusals;
 mod replay;
 mod story;

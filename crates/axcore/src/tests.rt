@@ -77,9 +77,9 @@ const fn done(words: &'static str, input: &'static str, out: &'static str) -> Ca
     }
 }
 
-const fn refused(input: &'static str, out: &'static str) -> Case {
+const fn refused(words: &'static str, input: &'static str, out: &'static str) -> Case {
     Case {
-        words: "replay",
+        words,
         input,
         status: Status::Refused,
         out,
@@ -139,6 +139,11 @@ fn replay_tells_what_the_client_heard(rt: HostRuntime) -> Result<(), Fail> {
             "{\"start\":1}\n{\"turns\":\"CPC\"}\n{\"flush\":true}\n{\"hear\":true}\n{\"await\":1}\n",
             "#1 @0 hear\n#2 @1 await\nend 1\n",
         ),
+        done(
+            "replay",
+            "{\"insert\":2,\"into\":1,\"tag\":\"ul\",\"attrs\":{\"role\":\"none\"}}\n{\"insert\":3,\"into\":2,\"tag\":\"li\"}\n{\"insert\":4,\"into\":1,\"tag\":\"div\",\"attrs\":{\"role\":\"status\"}}\n{\"insert\":5,\"into\":4,\"tag\":\"h3\"}\n{\"insert\":6,\"into\":1,\"tag\":\"input\",\"attrs\":{\"type\":\"checkbox\",\"checked\":\"\",\"disabled\":\"\"}}\n{\"start\":1}\n{\"ask\":{\"q\":\"children\",\"id\":1}}\n{\"ask\":{\"q\":\"live\",\"id\":5}}\n{\"ask\":{\"q\":\"level\",\"id\":5}}\n{\"ask\":{\"q\":\"states\",\"id\":6}}\n{\"ask\":{\"q\":\"role\",\"id\":2}}\n",
+            "#1 @0 children 3 3 4 6\n#2 @0 live polite\n#3 @0 level 3\n#4 @0 states disabled checked=true\n#5 @0 stale\nend 0\n",
+        ),
     ];
     for case in &cases {
         assert!(rt; holds(&rt, rt.alloc(), case)?, "{}", case.input);
@@ -149,26 +154,35 @@ fn replay_tells_what_the_client_heard(rt: HostRuntime) -> Result<(), Fail> {
 #[test]
 fn what_is_refused_says_where_and_why(rt: HostRuntime) -> Result<(), Fail> {
     let cases = [
-        refused("", "refused 0 NoStart\n"),
-        refused("{\"flush\":true}\n", "refused 1 NoStart\n"),
-        refused("{\"start\":1}\n{\"flush\":", "refused 2 BadJson\n"),
+        refused("replay", "", "refused 0 NoStart\n"),
+        refused("replay", "{\"flush\":true}\n", "refused 1 NoStart\n"),
         refused(
+            "replay",
+            "{\"start\":1}\n{\"flush\":",
+            "refused 2 BadJson\n",
+        ),
+        refused(
+            "replay",
             "{\"start\":1}\n{\"until\":1}\n{\"flush\":true}\n{\"await\":1}\n",
             "refused 0 Stuck\n",
         ),
         refused(
+            "replay",
             "{\"insert\":2,\"into\":1,\"tag\":\"div\"}\n{\"insert\":2,\"into\":1,\"tag\":\"div\"}\n",
             "refused 2 UsedId\n",
         ),
         refused(
+            "dump",
             "{\"insert\":2,\"into\":1,\"tag\":\"div\"}\n{\"start\":1}\n",
             "refused 0 NotBuilt\n",
         ),
         refused(
+            "dump",
             "{\"insert\":2,\"into\":1,\"tag\":\"button\"}\n{\"insert\":3,\"into\":2,\"tag\":\"main\"}\n{\"start\":1}\n",
             "refused 0 NotBuilt\n",
         ),
         refused(
+            "replay",
             "{\"start\":1}\n{\"notices\":true}\n",
             "refused 0 NotBuilt\n",
         ),

@@ -17,7 +17,8 @@ use Rattle.story_lines.specs.Runs.{edge, size, rect_by, rect, rect_at, run_by, r
 use Rattle.story_lines.specs.Requests.{request_by}
 use Rattle.story_lines.specs.Attributes.{maybe_attributes}
 use Rattle.story_lines.specs.Forms.{insert_element_of, insert_text_of, remove_of, move_of, set_of, unset_of, text_of, runs_of, frame_of, focus_of, edit_of, start_of, flush_of, until_of, ask_of, again_of, hear_of, await_of, notices_of, turns_of, form_of}
-use Rattle.story_lines.specs.Bounds.{IsWithinBounds, EditKeepsBounds, KeepsBounds}
+use Rattle.ax_base.specs.Rects.{IsWithinBounds}
+use Rattle.story_lines.specs.Bounds.{EditKeepsBounds, KeepsBounds}
 
 -- what a reading gives is such
 record Gives {A : Type 0} (o : Option A) (P : A → Type 0) : Type 0 where

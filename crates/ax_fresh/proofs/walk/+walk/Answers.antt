@@ -1,13 +1,15 @@
 use Rattle.std.proofs.Common.{◌≡◌, ◌∙◌, ◌++◌, true, sym, ap, subst, arith, append-nil}
 use Rattle.std.proofs.lemmas.Result.{on_ok_weaker}
 use Rattle.std.specs.List.{flat_map}
-use Rattle.ax_base.specs.Document.{IsChild, has, body, depth}
+use Rattle.std.specs.Option.{unwrap_or}
+use Rattle.ax_base.specs.Document.{IsChild, has, body, spot, depth}
+use Rattle.ax_base.specs.States.{sets_live}
 use Rattle.ax_base.specs.Kids.{kids, taken}
-use Rattle.ax_base.proofs.KidsLaws.{pruned-child}
+use Rattle.ax_base.proofs.KidsLaws.{live-child}
 use Rattle.ax_base.proofs.Objects.{objects_known}
 use Rattle.ax_dom.specs.declared.cell.Cell.{Cell}
 use Rattle.ax_fresh.specs.Gathering.{with_records, put_order, AreKidsOf}
-use Rattle.ax_fresh.proofs.Gathered.{child_of, cell_is, descends, shut_kids, shut_by_role, more_kids, more_records, all_kids, all_put, hangs, taken_past, child_object, put_last}
+use Rattle.ax_fresh.proofs.Gathered.{child_of, cell_is, descends, shut_kids, shut_by_role, out_by_itself, shown_child, taken_hidden, live_is, more_kids, more_records, all_kids, all_put, hangs, taken_past, child_object, put_last}
 use Rattle.ax_fresh.proofs.walk.+walk.Goals as goal
 
 pub gather-gather_child-requires : goal.gather-gather_child-requires
@@ -17,7 +19,7 @@ gather-gather_child-requires g t c κs within =
     let child : IsChild d c.args.node c.child-item.result = child_of d c.args.node c.loop-child.child-index _ _ c.children-child-items.ensures.value (omega arith) c.child-item.is in
     let l = c.decreases in
     let m = descends d tree c.args.node c.child-item.result child in
-    (omega arith, (within, (tree.known c.args.node c.child-item.result child, (pruned-child d tree c.args.node c.child-item.result child ∙ c.requires.visible, hangs d tree c.args.above c.args.node c.child-item.result child c.requires.hung))))
+    (omega arith, (within, (tree.known c.args.node c.child-item.result child, (out_by_itself d tree c.args.node c.child-item.result child c.requires.visible, (live-child d tree c.args.node c.child-item.result child ∙ ap (unwrap_or (sets_live (spot d c.child-item.result))) (sym c.requires.live), hangs d tree c.args.above c.args.node c.child-item.result child c.requires.hung)))))
 
 pub gather-loop-child-preserved : goal.gather-loop-child-preserved
 gather-loop-child-preserved g t c =
@@ -40,9 +42,12 @@ gather_child-gather_inside-requires g t c κs within =
     let d = c.args.dom.now in
     let tree = c.in-Some.ensures.tree in
     let is_body : c.in-Some.cell.now.body ≡ body d c.args.child = ap (λ (x : Cell). x.body) (cell_is d c.args.child c.in-Some.cell.now c.in-Some.ensures.value) in
-    let gives : taken d c.args.child ≡ kids d c.args.child = taken_past d tree c.args.child c.in-Some.cell.now.body c.is_ignored.result is_body c.is_ignored.ensures c.if-is_ignored.true c.requires.visible in
+    let visible = shown_child d tree c.args.child c.in-Some.cell.now.body c.hides.result is_body c.hides.ensures c.if-hides.false c.requires.visible in
+    let gives : taken d c.args.child ≡ kids d c.args.child = taken_past d tree c.args.child c.in-Some.cell.now.body c.is_ignored.result is_body c.is_ignored.ensures c.if-is_ignored.true visible in
+    let shut = c.prunes-shut.ensures ∙ shut_by_role d tree c.args.child c.role_of-role.result c.in-Some.cell.now.body c.requires.known is_body c.role_of-role.ensures visible in
+    let same = live_is d tree c.args.child c.in-Some.cell.now.body c.role_of-role.result c.unwrap_or-live.result c.args.around is_body c.role_of-role.ensures (c.unwrap_or-live.ensures ∙ ap (λ o. unwrap_or o c.args.around) c.live_by.ensures) c.requires.around in
     let l = c.decreases in
-    (omega arith, (within, (tree, (c.requires.known, (c.is_pruning-shut.ensures ∙ shut_by_role d tree c.args.child c.role_of-role.result c.in-Some.cell.now.body c.requires.known is_body c.role_of-role.ensures c.requires.visible, subst (AreKidsOf d c.args.above) gives c.requires.hung)))))
+    (omega arith, (within, (tree, (c.requires.known, (shut, (same, subst (AreKidsOf d c.args.above) gives c.requires.hung))))))
 
 pub gather_child-put_object-requires : goal.gather_child-put_object-requires
 gather_child-put_object-requires g t c κs within =
@@ -51,7 +56,28 @@ gather_child-put_object-requires g t c κs within =
     let cell = cell_is d c.args.child c.in-Some.cell.now c.in-Some.ensures.value in
     let l = c.decreases in
     let m : depth d c.in-Some.cell.now.id ≡ depth d c.args.child = ap (λ (x : Cell). depth d x.id) cell in
-    (omega arith, (within, (tree, child_object d tree c.args.above c.args.child c.in-Some.cell.now c.role_of-role.result c.is_ignored.result cell c.role_of-role.ensures c.is_ignored.ensures c.if-is_ignored.false c.requires.visible c.requires.hung)))
+    let is_body : c.in-Some.cell.now.body ≡ body d c.args.child = ap (λ (x : Cell). x.body) cell in
+    let visible = shown_child d tree c.args.child c.in-Some.cell.now.body c.hides.result is_body c.hides.ensures c.if-hides.false c.requires.visible in
+    let same = live_is d tree c.args.child c.in-Some.cell.now.body c.role_of-role.result c.unwrap_or-live.result c.args.around is_body c.role_of-role.ensures (c.unwrap_or-live.ensures ∙ ap (λ o. unwrap_or o c.args.around) c.live_by.ensures) c.requires.around in (
+      omega arith,
+      (within, (tree, child_object d tree c.args.above c.args.child c.in-Some.cell.now c.role_of-role.result c.is_ignored.result cell c.role_of-role.ensures c.is_ignored.ensures c.if-is_ignored.false visible c.unwrap_or-live.result same c.requires.hung)),
+    )
+
+pub gather_child-returns-then-hides-clause-kids : goal.gather_child-returns-then-hides-clause-kids
+gather_child-returns-then-hides-clause-kids g t c =
+    let d = c.args.dom.now in
+    let tree = c.in-Some.ensures.tree in
+    let is_body : c.in-Some.cell.now.body ≡ body d c.args.child = ap (λ (x : Cell). x.body) (cell_is d c.args.child c.in-Some.cell.now c.in-Some.ensures.value) in
+    let none = taken_hidden d tree c.args.child c.in-Some.cell.now.body c.hides.result is_body c.hides.ensures c.if-hides.true c.requires.visible in
+    sym (ap (λ ks. c.args.found.now ++ ks) none ∙ append-nil c.args.found.now)
+
+pub gather_child-returns-then-hides-clause-records : goal.gather_child-returns-then-hides-clause-records
+gather_child-returns-then-hides-clause-records g t c =
+    let d = c.args.dom.now in
+    let tree = c.in-Some.ensures.tree in
+    let is_body : c.in-Some.cell.now.body ≡ body d c.args.child = ap (λ (x : Cell). x.body) (cell_is d c.args.child c.in-Some.cell.now c.in-Some.ensures.value) in
+    let none = taken_hidden d tree c.args.child c.in-Some.cell.now.body c.hides.result is_body c.hides.ensures c.if-hides.true c.requires.visible in
+    sym (ap (λ ks. with_records d c.args.records.now (flat_map (put_order d) ks)) none)
 
 pub gather_inside-returns-then-shut-clause-kids : goal.gather_inside-returns-then-shut-clause-kids
 gather_inside-returns-then-shut-clause-kids g t c =
@@ -71,7 +97,7 @@ put_object-gather_inside-requires g t c κs within =
     let id = c.args.cell.now.id in
     let there : has d id ≡ true = objects_known d c.requires.tree id c.requires.object in
     let l = c.decreases in
-    (omega arith, (within, (c.requires.tree, (there, (c.is_pruning-shut.ensures ∙ shut_by_role d c.requires.tree id c.args.role c.args.cell.now.body there (ap (λ (x : Cell). x.body) c.requires.cell) c.requires.role c.requires.visible, (c.requires.object, λ k inside. inside))))))
+    (omega arith, (within, (c.requires.tree, (there, (c.prunes-shut.ensures ∙ shut_by_role d c.requires.tree id c.args.role c.args.cell.now.body there (ap (λ (x : Cell). x.body) c.requires.cell) c.requires.role c.requires.visible, (c.requires.live, (c.requires.object, λ k inside. inside)))))))
 
 pub put_object-returns : goal.put_object-returns
 put_object-returns g t c =

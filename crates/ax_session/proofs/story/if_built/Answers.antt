@@ -6,5 +6,5 @@ pub returns-then-branch-clause-ready : goal.returns-then-branch-clause-ready
 returns-then-branch-clause-ready c = record {
   accepted = c.requires.accepted;
   free = c.requires.free;
-  answered = built_is_answered c.args.story (sym c.in_ok-is_built.ensures ∙ c.if-branch.true);
+  answered = built_is_answered c.args.command c.args.story (sym c.in_ok-is_built_for.ensures ∙ c.if-branch.true);
 }

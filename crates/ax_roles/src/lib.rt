@@ -1,0 +1,12 @@
+//! The roles of elements, and what a role or an element decides by itself. No call takes memory or refuses.
+#![tactic(auto)]
+
+mod element;
+mod given;
+mod host;
+mod tables;
+#[cfg(test)]
+mod tests;
+
+pub use element::{focusable_of, hides, is_ignored, role_of};
+pub use tables::{name_prohibited, names_from_content, prunes};
