@@ -15,5 +15,7 @@ pub mod KidsLaws
 pub mod Objects
 pub mod Written
 mod Rectangles
+pub mod SaidLaws
 mod Tables
 mod Rows
+mod NameRows

@@ -17,7 +17,7 @@ use Rattle.ax_base.specs.Rects.{nowhere}
 use Rattle.ax_base.specs.Context.{is_hidden, live_at}
 use Rattle.ax_base.specs.Kids.{kids, objects}
 
-abbrev given : Chars → Chars → Attr
+abbrev pub given : Chars → Chars → Attr
 given name value = record { name = name; value = value }
 
 abbrev role_attr : Chars → List Attr
@@ -103,10 +103,10 @@ slider_text : value_shown Slider (codes "input") (given (codes "value") (codes "
 unfolding value_shown
 slider_text = refl
 
-abbrev element : Chars → List Attr → List ℕ → Node
+abbrev pub element : Chars → List Attr → List ℕ → Node
 element tag attrs cs = record { body = Element tag attrs nowhere; children = cs }
 
-abbrev text : Chars → Node
+abbrev pub text : Chars → Node
 text chars = record { body = Words chars []; children = [] }
 
 -- a list without its role, a status with a heading, and a box that is checked and disabled

@@ -16,3 +16,6 @@ pub mod States
 pub mod Context
 pub mod Kids
 pub mod Names
+pub mod Said
+pub mod References
+pub mod AccessibleNames

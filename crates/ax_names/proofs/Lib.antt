@@ -5,3 +5,5 @@ pub mod Joining
 pub mod Putting
 pub mod Again
 pub mod Apart
+mod Speaking
+mod Above

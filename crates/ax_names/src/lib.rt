@@ -5,12 +5,20 @@ ghost use Rattle.std.specs.Prelude.{◌≡◌, ◌++◌, List, map};
 ghost use Rattle.ax_base.specs.Characters.{Chars, is_blank, flat, cut, joined_by_spaces};
 ghost use Rattle.ax_names.specs.Pieces.{is_empty, piece_of, joined, flattened, all_apart, name_of, has_no_words, has_nothing};
 
+mod embedded;
 mod front;
+mod hidden;
+mod nodes;
 mod pieces;
+mod plain;
+mod referred;
 #[cfg(test)]
 mod tests;
 
+pub use hidden::is_hidden;
 pub use pieces::Piece;
+pub use plain::{said_plain, said_whole};
+pub use referred::referred_node;
 
 /// What is kept of texts tells what is kept of them put together, and what name they make.
 ///

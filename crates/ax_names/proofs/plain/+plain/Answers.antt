@@ -1,0 +1,39 @@
+use Rattle.std.proofs.Common.{◌≡◌, ◌∙◌, ap, arith}
+use Rattle.std.proofs.lemmas.Result.{IfOk-weaker}
+use Rattle.ax_base.specs.Document.{IsChild, has, depth}
+use Rattle.ax_dom.specs.declared.cell.Cell.{Cell}
+use Rattle.ax_names.specs.Pieces.{piece_of}
+use Rattle.ax_names.proofs.Speaking.{child_of, cell_is, own_cell, descends, says_nothing, says_words, says_element}
+use Rattle.ax_names.proofs.plain.+plain.Goals as goal
+
+pub plain_children-plain_child-requires : goal.plain_children-plain_child-requires
+plain_children-plain_child-requires g t c κs within =
+    let d = c.args.dom.now in
+    let tree = c.children-child-items.ensures.tree in
+    let child : IsChild d c.args.id c.child-item.result = child_of d c.args.id c.loop-child.child-index _ _ c.children-child-items.ensures.value (omega arith) c.child-item.is in
+    let l = c.decreases in
+    let m = descends d tree c.args.id c.child-item.result child in
+    (omega arith, (within, tree.known c.args.id c.child-item.result child))
+
+pub plain_child-plain_cell-requires : goal.plain_child-plain_cell-requires
+plain_child-plain_cell-requires g t c κs within =
+    let d = c.args.dom.now in
+    let cell = cell_is d c.args.child c.in-Some.cell.now c.in-Some.ensures.value in
+    let l = c.decreases in
+    let m : depth d c.in-Some.cell.now.id ≡ depth d c.args.child = ap (λ (x : Cell). depth d x.id) cell in
+    (omega arith, (within, (c.in-Some.ensures.tree, (ap (λ (x : Cell). has d x.id) cell ∙ c.requires.known, own_cell d c.args.child c.in-Some.cell.now cell))))
+
+pub plain_cell-returns-then-is_silent : goal.plain_cell-returns-then-is_silent
+plain_cell-returns-then-is_silent g t c =
+    let d = c.args.dom.now in
+    c.empty.ensures ∙ ap piece_of (says_nothing c.args.whole d c.requires.tree c.args.cell.now.id c.args.cell.now.body (ap (λ (x : Cell). x.body) c.requires.cell) c.is_silent.result c.is_silent.ensures c.if-is_silent.true)
+
+pub plain_cell-returns-in-Words : goal.plain_cell-returns-in-Words
+plain_cell-returns-in-Words g t c =
+    let d = c.args.dom.now in
+    IfOk-weaker c.of.result _ _ (λ p e. e ∙ ap piece_of (says_words c.args.whole d c.requires.tree c.args.cell.now.id c.args.cell.now.body (ap (λ (x : Cell). x.body) c.requires.cell) c.is_silent.result c.is_silent.ensures c.if-is_silent.false c.in-Words.chars c.in-Words.runs c.in-Words.is _ c.as_str.ensures)) c.of.ensures
+
+pub plain_cell-returns-in-Element : goal.plain_cell-returns-in-Element
+plain_cell-returns-in-Element g t c =
+    let d = c.args.dom.now in
+    IfOk-weaker c.plain_element.result _ _ (λ p e. e ∙ ap piece_of (says_element c.args.whole d c.requires.tree c.args.cell.now.id c.args.cell.now.body (ap (λ (x : Cell). x.body) c.requires.cell) c.is_silent.result c.is_silent.ensures c.if-is_silent.false c.role_of-role.result c.role_of-role.ensures c.in-Element.tag c.in-Element.attrs c.in-Element.frame c.in-Element.is _ c.as_str-in-Element.ensures)) c.plain_element.ensures

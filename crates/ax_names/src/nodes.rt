@@ -1,0 +1,88 @@
+//! What a node is by itself.
+ghost use Rattle.std.specs.Prelude.{◌≡◌, ◌==◌, bytes_eq};
+ghost use Rattle.std.specs.List.{list_any};
+ghost use Rattle.ax_base.specs.Document.{root};
+ghost use Rattle.ax_base.specs.Roles.{role_of, hides_body, hides};
+ghost use Rattle.ax_base.specs.Said.{is_block, is_block_element, block_tags};
+
+use ax_base::{Attrs, Body, ObjId, Role};
+
+/// The role of a node.
+pub fn role_of(id: ObjId, node: &Body) -> Role
+    ensures { result ≡ role_of (id == root) node.now }
+{
+    match node {
+        Body::Words { .. } => Role::Text,
+        Body::Element { tag, attrs, .. } => {
+            if id.number() == 1 {
+                Role::Document
+            } else {
+                ax_roles::role_of(tag.as_str(), attrs)
+            }
+        }
+    }
+}
+
+/// Whether a node leaves out itself and what is below it.
+pub fn hides(id: ObjId, node: &Body) -> bool
+    ensures { result ≡ hides (record { id = id; body = node.now }) }
+{
+    id.number() != 1 && hides_body(node)
+}
+
+fn hides_body(node: &Body) -> bool
+    ensures { result ≡ hides_body node.now }
+{
+    match node {
+        Body::Element { tag, attrs, .. } => ax_roles::hides(tag.as_str(), attrs),
+        Body::Words { .. } => false,
+    }
+}
+
+/// Whether a node stands in a block of its own; a text does not.
+pub fn is_block(node: &Body) -> bool
+    ensures { result ≡ is_block node.now }
+{
+    match node {
+        Body::Words { .. } => false,
+        Body::Element { tag, attrs, .. } => is_block_element(tag.as_str(), attrs),
+    }
+}
+
+/// Whether an element stands in a block of its own: where the word of `display` is block, and by its tag where that word is not
+/// inline.
+#[tactic(auto, unfolding(ax_base::specs::Said::is_block_element))]
+fn is_block_element(tag: &str, attrs: &Attrs) -> bool
+    ensures { result ≡ is_block_element tag.now attrs.now }
+{
+    attrs.has_word("display", "block")
+        || (!attrs.has_word("display", "inline") && has_block_tag(tag))
+}
+
+/// Whether a tag is one of those of elements in blocks of their own.
+fn has_block_tag(tag: &str) -> bool
+    ensures { result ≡ list_any (bytes_eq tag.now) block_tags }
+{
+    matches!(
+        tag,
+        "p" | "div"
+            | "h1"
+            | "h2"
+            | "h3"
+            | "h4"
+            | "h5"
+            | "h6"
+            | "li"
+            | "ul"
+            | "ol"
+            | "main"
+            | "nav"
+            | "article"
+            | "section"
+            | "table"
+            | "tr"
+            | "td"
+            | "th"
+            | "br"
+    )
+}
