@@ -8,10 +8,12 @@ ghost use Rattle.ax_names.specs.Pieces.{is_empty, piece_of, joined, flattened, a
 mod embedded;
 mod front;
 mod hidden;
+mod memo;
 mod nodes;
 mod pieces;
 mod plain;
 mod referred;
+mod targets;
 #[cfg(test)]
 mod tests;
 
