@@ -13,6 +13,8 @@ mod nodes;
 mod pieces;
 mod plain;
 mod referred;
+mod refs;
+mod session;
 mod targets;
 #[cfg(test)]
 mod tests;
@@ -20,7 +22,7 @@ mod tests;
 pub use hidden::is_hidden;
 pub use pieces::Piece;
 pub use plain::{said_plain, said_whole};
-pub use referred::referred_node;
+pub use session::Names;
 
 /// What is kept of texts tells what is kept of them put together, and what name they make.
 ///
