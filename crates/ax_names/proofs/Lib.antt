@@ -7,3 +7,5 @@ pub mod Again
 pub mod Apart
 mod Speaking
 mod Above
+mod Known
+mod Referring

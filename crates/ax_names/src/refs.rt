@@ -47,6 +47,7 @@ fn all_referred<L: Ledger>(
     ensures value { IfOk result (λ p. p ≡ piece_of (all_apart (all_referred dom.now text.now))) }
     ensures names { OnOk result (AreNamesOf dom.now names.new) }
 {
+    pieces_tell();
     let mut joined = Piece::empty(alloc);
     let mut rest = text;
     for _ in 0..MOST {

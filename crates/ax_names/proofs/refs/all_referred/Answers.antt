@@ -1,0 +1,32 @@
+use Rattle.std.proofs.Common.{rules, arith}
+use Rattle.ax_names.proofs.Referring.{none_yet, at_end, at_eight, one_more}
+use Rattle.ax_names.proofs.refs.all_referred.Goals as goal
+
+pub loop-init : goal.loop-init
+loop-init g c = (c.requires.names, none_yet c.args.dom.now c.args.text.now c.empty-joined.result c.empty-joined.ensures, c.utf8.text)
+
+pub first_token-requires-text-text : goal.first_token-requires-text-text
+first_token-requires-text-text g c κs = c.loop.invariant.2
+
+pub returns-in_default-clause-value : goal.returns-in_default-clause-value
+returns-in_default-clause-value g c = at_end c.args.dom.now c.args.text.now c.loop.rest.now c.loop.counter c.loop.joined c.loop.invariant.1 c.in_default.ensures.tokens
+
+pub returns-in_default-clause-names : goal.returns-in_default-clause-names
+returns-in_default-clause-names g c = c.loop.invariant.0
+
+pub push_token-requires : goal.push_token-requires
+push_token-requires g c = record { names = c.loop.invariant.0 }
+
+pub loop-preserved : goal.loop-preserved
+loop-preserved g c = (
+  c.in_ok-push_token.ensures.names,
+  one_more c.args.dom.now c.args.text.now c.pieces_tell.ensures.together c.loop.rest.now c.in-Some.token.now c.in-Some.after.now c.loop.counter c.loop.joined c.push_token.new.into c.loop.invariant.1 c.loop-test.true
+    c.in-Some.ensures.tokens c.in_ok-push_token.ensures.value,
+  search rules,
+)
+
+pub returns-clause-value : goal.returns-clause-value
+returns-clause-value g c = at_eight c.args.dom.now c.args.text.now c.loop.rest.now c.loop.counter c.loop.joined c.loop.invariant.1 c.loop-test.false
+
+pub returns-clause-names : goal.returns-clause-names
+returns-clause-names g c = c.loop.invariant.0
