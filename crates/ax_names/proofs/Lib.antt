@@ -7,3 +7,4 @@ pub mod Again
 pub mod Apart
 mod Speaking
 mod Above
+mod Firsts

@@ -10,6 +10,7 @@ mod front;
 mod hidden;
 mod memo;
 mod nodes;
+mod order;
 mod pieces;
 mod plain;
 mod referred;
@@ -21,6 +22,7 @@ pub use hidden::is_hidden;
 pub use pieces::Piece;
 pub use plain::{said_plain, said_whole};
 pub use referred::referred_node;
+pub use targets::Targets;
 
 /// What is kept of texts tells what is kept of them put together, and what name they make.
 ///
