@@ -9,3 +9,4 @@ mod Speaking
 mod Above
 mod Known
 mod Referring
+mod Firsts

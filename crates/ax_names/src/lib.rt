@@ -10,6 +10,7 @@ mod front;
 mod hidden;
 mod memo;
 mod nodes;
+mod order;
 mod pieces;
 mod plain;
 mod referred;
