@@ -10,3 +10,4 @@ mod Above
 mod Known
 mod Referring
 mod Firsts
+mod Showing

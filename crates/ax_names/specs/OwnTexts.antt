@@ -6,6 +6,7 @@ use Rattle.ax_base.specs.Characters.{Chars, is_blank, first_said}
 use Rattle.ax_base.specs.Values.{text_in}
 use Rattle.ax_base.specs.Document.{Document, Spot}
 use Rattle.ax_base.specs.Roles.{hides}
+use Rattle.ax_base.specs.NamedRoles.{names_from_content}
 use Rattle.ax_base.specs.Said.{embedded, said0, said_all}
 
 -- the first of two texts where it is not blank, and else the second
@@ -31,3 +32,13 @@ hiding whole n = not whole && hides n
 -- what a node says that follows no reference, or all that it says
 abbrev pub said_part : Bool → Document → ℕ → Chars
 said_part whole d n = if whole then said_all d n else said0 d n
+
+-- what an element of a role says whose own references say `referred`, from what its children say
+abbrev pub element_shows : Chars → Role → Chars → List Attr → Chars → Chars
+element_shows referred r tag attrs below = said_or referred (element_says r tag attrs below)
+
+-- what an element of a role is called, before its `title`: the first that is not blank of what its references say, its `aria-label`, its label by the host language,
+-- and, where the role is named from content, what its children say
+abbrev pub element_called : Chars → Chars → Role → List Attr → Chars → Chars
+element_called referred label r attrs below =
+    said_or referred (said_or (text_in (codes "aria-label") attrs) (said_or label (said_or (if names_from_content r then below else []) [])))

@@ -16,6 +16,7 @@ mod plain;
 mod referred;
 mod refs;
 mod session;
+mod shown;
 mod targets;
 #[cfg(test)]
 mod tests;

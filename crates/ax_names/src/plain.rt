@@ -165,7 +165,7 @@ fn is_silent(whole: bool, id: ObjId, node: &Body) -> bool
 }
 
 /// A piece, between two spaces where it stands apart.
-fn with_spaces(alloc: Global, apart: bool, said: Piece) -> Result<Piece, NoMemory>
+pub(crate) fn with_spaces(alloc: Global, apart: bool, said: Piece) -> Result<Piece, NoMemory>
     ensures { IfOk result (λ p. (t : Chars) → said ≡ piece_of t → p ≡ piece_of (spaced apart t)) }
 {
     if !apart {
