@@ -11,3 +11,4 @@ mod Known
 mod Referring
 mod Firsts
 mod Showing
+mod Calling

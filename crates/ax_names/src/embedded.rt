@@ -67,7 +67,7 @@ fn range_text(attrs: &Attrs) -> &str
 }
 
 /// Whether an element is an `input` whose word of `type` is button, submit or reset.
-fn is_button_field(tag: &str, attrs: &Attrs) -> bool
+pub fn is_button_field(tag: &str, attrs: &Attrs) -> bool
     ensures { result ≡ is_button_field tag.now attrs.now }
 {
     tag == "input"

@@ -5,6 +5,7 @@ ghost use Rattle.std.specs.Prelude.{◌≡◌, ◌++◌, List, map};
 ghost use Rattle.ax_base.specs.Characters.{Chars, is_blank, flat, cut, joined_by_spaces};
 ghost use Rattle.ax_names.specs.Pieces.{is_empty, piece_of, joined, flattened, all_apart, name_of, has_no_words, has_nothing};
 
+mod called;
 mod embedded;
 mod front;
 mod hidden;
