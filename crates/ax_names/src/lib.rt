@@ -6,6 +6,7 @@ ghost use Rattle.ax_base.specs.Characters.{Chars, is_blank, flat, cut, joined_by
 ghost use Rattle.ax_names.specs.Pieces.{is_empty, piece_of, joined, flattened, all_apart, name_of, has_no_words, has_nothing};
 
 mod called;
+mod calls;
 mod embedded;
 mod front;
 mod hidden;
@@ -22,6 +23,7 @@ mod targets;
 #[cfg(test)]
 mod tests;
 
+pub use calls::{description_of, name_of};
 pub use hidden::is_hidden;
 pub use pieces::Piece;
 pub use plain::{said_plain, said_whole};
