@@ -15,7 +15,6 @@ pub mod Rects
 pub mod States
 pub mod Context
 pub mod Kids
-pub mod Names
 pub mod Said
 pub mod References
 pub mod AccessibleNames

@@ -11,8 +11,8 @@ use Rattle.ax_base.specs.Document.{Document, spot, body, ids, lineage}
 use Rattle.ax_base.specs.Roles.{role}
 use Rattle.ax_base.specs.States.{value, states, level}
 use Rattle.ax_base.specs.Context.{live_at}
-use Rattle.ax_base.specs.Names.{name}
 use Rattle.ax_base.specs.Kids.{kids, objects}
+use Rattle.ax_base.specs.AccessibleNames.{name_of, description_of}
 use Rattle.ax_record.specs.declared.record.Record.{Record}
 use Rattle.ax_record.specs.Tree.{Tree}
 
@@ -40,8 +40,8 @@ abbrev pub record_of : Document → ℕ → Record
 record_of d n = record {
   id = n;
   role = role (spot d n);
-  name = name d n;
-  description = [];
+  name = name_of d n;
+  description = description_of d n;
   value = value (spot d n);
   states = states (spot d n);
   level = level (spot d n);

@@ -4,9 +4,11 @@
 mod element;
 mod given;
 mod host;
+mod node;
 mod tables;
 #[cfg(test)]
 mod tests;
 
 pub use element::{focusable_of, hides, is_ignored, role_of};
+pub use node::{node_hides, node_is_ignored, node_role};
 pub use tables::{name_prohibited, names_from_content, prunes};
