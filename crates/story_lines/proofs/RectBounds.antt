@@ -1,5 +1,5 @@
 -- The rectangles of a line are within bounds.
-use Rattle.std.proofs.Common.{◌≡◌, ℕ, ◌-◌, ◌^◌, ◌≤◌, ◌<◌, ℤ, pos, negsuc, ◌≤ℤ◌, ◌&&◌, [], ◌∷◌, Bool, true, false, cond, Option, Some, None, Result, Ok, Err, ◌∙◌, option_map, option_and_then, refl, subst, arith}
+use Rattle.std.proofs.Common.{◌≡◌, ℕ, ◌-◌, ◌^◌, ◌≤◌, ◌<◌, ℤ, pos, negsuc, ◌≤ℤ◌, ◌&&◌, [], ◌∷◌, Bool, true, false, cond, Option, Some, None, Result, Ok, ◌∙◌, option_map, option_and_then, refl, subst, arith}
 use Rattle.std.specs.Prelude.{IfSome, All, nat_le, nat_lt, codes}
 use Rattle.std.specs.Option.{ok_or}
 use Rattle.std.proofs.lemmas.Bool.{leb-true, ltb-true}
