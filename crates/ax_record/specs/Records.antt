@@ -1,5 +1,5 @@
 -- The tree of a document.
-use Rattle.std.specs.Prelude.{ℕ, pos, Bool, List, [], map, filter, find, Option, Some, None, nat_eq}
+use Rattle.std.specs.Prelude.{ℕ, Bool, List, [], map, filter, find, Option, Some, None, nat_eq}
 use Rattle.std.specs.List.{list_any}
 use Rattle.std.specs.Option.{option_and_then}
 use Rattle.ax_base.specs.declared.body.Body.{Body}
@@ -7,6 +7,7 @@ use Rattle.ax_base.specs.declared.body.Body.TheVariants.{Element, Words}
 use Rattle.ax_base.specs.declared.rect.Rect.{Rect}
 use Rattle.ax_base.specs.declared.rect.Run.{Run}
 use Rattle.ax_base.specs.Characters.{Chars}
+use Rattle.ax_base.specs.Rects.{frame_of_runs}
 use Rattle.ax_base.specs.Document.{Document, spot, body, ids, lineage}
 use Rattle.ax_base.specs.Roles.{role}
 use Rattle.ax_base.specs.States.{value, states, level}
@@ -16,10 +17,10 @@ use Rattle.ax_base.specs.Kids.{kids, objects}
 use Rattle.ax_record.specs.declared.record.Record.{Record}
 use Rattle.ax_record.specs.Tree.{Tree}
 
--- the frame of an element; a text has none of its own
+-- the frame of an element, and of a text the least rectangle that holds its runs
 abbrev pub frame_of : Body → Rect
 frame_of (Element tag attrs frame) = frame
-frame_of (Words chars runs) = record { x = pos 0; y = pos 0; w = pos 0; h = pos 0 }
+frame_of (Words chars runs) = frame_of_runs runs
 
 -- the characters of a text
 abbrev pub chars_of : Body → Option Chars
