@@ -1,12 +1,23 @@
 -- Rectangles (this project's own).
-use Rattle.std.specs.Prelude.{◌^◌, ◌-◌, ℤ, pos, negsuc, ◌+ℤ◌, ◌-ℤ◌, ◌≤ℤ◌, Bool, ◌&&◌, int_le, int_lt, List, [], ◌∷◌, fold, map}
+use Rattle.std.specs.Prelude.{◌^◌, ◌-◌, ℤ, pos, negsuc, ◌+ℤ◌, ◌-ℤ◌, ◌≤ℤ◌, Bool, ◌&&◌, int_le, int_lt, List, [], ◌∷◌, All, fold, map}
 use Rattle.std.specs.Int.{int_min, int_max}
+use Rattle.ax_base.specs.declared.body.Body.{Body}
+use Rattle.ax_base.specs.declared.body.Body.TheVariants.{Element, Words}
 use Rattle.ax_base.specs.declared.rect.Rect.{Rect}
 use Rattle.ax_base.specs.declared.rect.Run.{Run}
 
 -- the sides are not negative, the left and top edges are at least -2^20, the right and bottom edges at most 2^21
 abbrev pub IsWithinBounds : Rect → Type 0
 IsWithinBounds r = (pos 0 ≤ℤ r.w) × (pos 0 ≤ℤ r.h) × (negsuc (2 ^ 20 - 1) ≤ℤ r.x) × (negsuc (2 ^ 20 - 1) ≤ℤ r.y) × ((r.x +ℤ r.w) ≤ℤ pos (2 ^ 21)) × ((r.y +ℤ r.h) ≤ℤ pos (2 ^ 21))
+
+-- the rectangle of each of some runs is within bounds
+abbrev pub AreRunsWithin : List Run → Type 0
+AreRunsWithin runs = All (λ (r : Run). IsWithinBounds r.rect) runs
+
+-- the rectangles of a node are within bounds: the frame of an element, and those of the runs of a text
+abbrev pub HasRectsWithin : Body → Type 0
+HasRectsWithin (Element tag attrs frame) = IsWithinBounds frame
+HasRectsWithin (Words chars runs) = AreRunsWithin runs
 
 -- an edge at least -2^20 and a side from it on that is not negative and ends at most at 2^21
 abbrev pub IsSideWithin : ℤ → ℤ → Type 0

@@ -8,6 +8,7 @@ use Rattle.std.proofs.lemmas.Option.{same_Some}
 use Rattle.ax_base.specs.declared.body.Body.{Body}
 use Rattle.ax_base.specs.declared.body.Body.TheVariants.{Element, Words}
 use Rattle.ax_base.specs.Document.{Document, Node, has, root, children, body, is_text, IsChild}
+use Rattle.ax_base.specs.Rects.{HasRectsWithin}
 use Rattle.ax_base.specs.Texts.{IsFitting}
 use Rattle.ax_base.specs.Trees.{IsTree}
 use Rattle.ax_base.proofs.Lookups.{finds, found_is}
@@ -16,9 +17,10 @@ use Rattle.ax_base.specs.Trees.{HasNoRepeats}
 use Rattle.ax_dom.specs.declared.cell.Cell.{Cell}
 use Rattle.ax_dom.specs.declared.cell.Slot.{Slot}
 use Rattle.ax_dom.specs.Slots.{cell_of, document_of, IsKept}
+use Rattle.ax_dom.proofs.Bounded.{no_runs_within}
 use Rattle.ax_dom.proofs.Fitting.{nothing_fits}
 
-module _ (b : Body) (element : is_text b ≡ false) where
+module _ (b : Body) (element : is_text b ≡ false) (near : HasRectsWithin b) where
   abbrev cell : Cell
   cell = record { id = 1; parent = None; depth = 0; body = b }
 
@@ -49,12 +51,13 @@ module _ (b : Body) (element : is_text b ≡ false) where
   element_fits (Element tag attrs frame) is = tt
   element_fits (Words chars runs) is = absurd (false≢true (sym is))
 
-  fits : (n : ℕ) → IsFitting (body d n)
-  fits n = go (finds n 1)
+  -- what the root's body and nothing have
+  each : (P : Body → Type 0) → P b → P (Words [] []) → (n : ℕ) → P (body d n)
+  each P here nothing n = go (finds n 1)
     where
-      go : (x : Bool) → IsFitting (option_map_or (λ (e : Node). e.body) (cond x (Some (record { body = b; children = [] })) None) (Words [] []))
-      go true = element_fits b element
-      go false = nothing_fits
+      go : (x : Bool) → P (option_map_or (λ (e : Node). e.body) (cond x (Some (record { body = b; children = [] })) None) (Words [] []))
+      go true = here
+      go false = nothing
 
   tree : IsTree d
   tree = record {
@@ -70,7 +73,8 @@ module _ (b : Body) (element : is_text b ≡ false) where
     once = λ n. subst HasNoRepeats (sym (nothing_below n)) no_repeats-nil;
     bare = λ n text. nothing_below n;
     rising = λ k low. absurd (omega arith);
-    fits = fits;
+    fits = each IsFitting (element_fits b element) nothing_fits;
+    within = each HasRectsWithin near no_runs_within;
     focused = λ n some. cc;
   }
 
@@ -86,8 +90,8 @@ module _ (b : Body) (element : is_text b ≡ false) where
       at_root n s false at there = cc
 
 -- the same of the entries that one insert into an empty map leaves
-pub new_kept : (fs gs : List (ℕ × Slot)) (b : Body) (cs used : List ℕ) → is_text b ≡ false → fs ≡ insert_entry nat_cmp gs 1 (record { cell = record { id = 1; parent = None; depth = 0; body = b }; children = cs }) → gs ≡ [] → cs ≡ [] → used ≡ []
+pub new_kept : (fs gs : List (ℕ × Slot)) (b : Body) (cs used : List ℕ) → is_text b ≡ false → HasRectsWithin b → fs ≡ insert_entry nat_cmp gs 1 (record { cell = record { id = 1; parent = None; depth = 0; body = b }; children = cs }) → gs ≡ [] → cs ≡ [] → used ≡ []
     → IsKept (document_of fs None used) fs
-new_kept fs gs b cs used element added empty none unused =
-    let all : fs ≡ es b element = added ∙ (λ i. insert_entry nat_cmp (empty i) 1 (record { cell = record { id = 1; parent = None; depth = 0; body = b }; children = none i })) in
-    subst (λ u. IsKept (document_of fs None u) fs) (sym unused) (subst (λ x. IsKept (document_of x None []) x) (sym all) (root_kept b element))
+new_kept fs gs b cs used element near added empty none unused =
+    let all : fs ≡ es b element near = added ∙ (λ i. insert_entry nat_cmp (empty i) 1 (record { cell = record { id = 1; parent = None; depth = 0; body = b }; children = none i })) in
+    subst (λ u. IsKept (document_of fs None u) fs) (sym unused) (subst (λ x. IsKept (document_of x None []) x) (sym all) (root_kept b element near))

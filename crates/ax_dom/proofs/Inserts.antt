@@ -11,6 +11,7 @@ use Rattle.std.proofs.lemmas.Map.{keys-set_value}
 use Rattle.ax_base.specs.declared.body.Body.{Body}
 use Rattle.ax_base.specs.declared.body.Body.TheVariants.{Words}
 use Rattle.ax_base.specs.Document.{Document, Node, node, has, root, children, parent, depth, body, is_text, ids, IsChild}
+use Rattle.ax_base.specs.Rects.{HasRectsWithin}
 use Rattle.ax_base.specs.Texts.{IsFitting}
 use Rattle.ax_base.specs.Trees.{IsTree, HasNoRepeats}
 use Rattle.ax_base.proofs.Places.{has_children, parent-child, parent-root, depth-level}
@@ -21,7 +22,7 @@ use Rattle.ax_dom.specs.Places.{placed}
 use Rattle.ax_dom.specs.Changes.{with_children, inserted}
 use Rattle.ax_dom.proofs.Placed.{placed_cases, placed_keeps, placed_has, placed_once}
 
-module _ (d : Document) (t : IsTree d) (id into : ℕ) (before : Option ℕ) (b : Body) (new : has d id ≡ false) (old : has d into ≡ true) (low : t.level into ≤ 63) (element : is_text (body d into) ≡ false) (fit : IsFitting b) where
+module _ (d : Document) (t : IsTree d) (id into : ℕ) (before : Option ℕ) (b : Body) (new : has d id ≡ false) (old : has d into ≡ true) (low : t.level into ≤ 63) (element : is_text (body d into) ≡ false) (fit : IsFitting b) (near : HasRectsWithin b) where
   abbrev e : Document
   e = inserted d id into before b
 
@@ -107,13 +108,14 @@ module _ (d : Document) (t : IsTree d) (id into : ℕ) (before : Option ℕ) (b 
   body_new : body e id ≡ b
   body_new = ap (λ o. option_map_or (λ (x : Node). x.body) o (Words [] [])) (node_is id) ∙ ap (λ x. option_map_or (λ (x : Node). x.body) (node_after x (finds into id) (node d id)) (Words [] [])) (finds_same id id refl)
 
-  fits_after : (q : ℕ) → IsFitting (body e q)
-  fits_after q = subst IsFitting (sym (ap (λ o. option_map_or (λ (x : Node). x.body) o (Words [] [])) (node_is q))) (go (finds q id) (finds into q))
+  -- what the new body and the old ones have
+  each_after : (P : Body → Type 0) → P b → ((q : ℕ) → P (body d q)) → (q : ℕ) → P (body e q)
+  each_after P new old q = subst P (sym (ap (λ o. option_map_or (λ (x : Node). x.body) o (Words [] [])) (node_is q))) (go (finds q id) (finds into q))
     where
-      go : (x y : Bool) → IsFitting (option_map_or (λ (x : Node). x.body) (node_after x y (node d q)) (Words [] []))
-      go true y = fit
-      go false true = t.fits into
-      go false false = t.fits q
+      go : (x y : Bool) → P (option_map_or (λ (x : Node). x.body) (node_after x y (node d q)) (Words [] []))
+      go true y = new
+      go false true = old into
+      go false false = old q
 
   not_there : IsChild d into id → ⊥
   not_there child = false≢true (sym new ∙ t.known into id child)
@@ -177,7 +179,8 @@ module _ (d : Document) (t : IsTree d) (id into : ℕ) (before : Option ℕ) (b 
     once = once_after;
     bare = bare_after;
     rising = rising_after;
-    fits = fits_after;
+    fits = each_after IsFitting fit t.fits;
+    within = each_after HasRectsWithin near t.within;
     focused = λ n some. has_kept n (t.focused n some);
   }
 

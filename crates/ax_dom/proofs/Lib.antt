@@ -1,4 +1,5 @@
 pub mod Fitting
+pub mod Bounded
 pub mod Placed
 pub mod Kept
 pub mod Without

@@ -13,7 +13,9 @@ use Rattle.std.proofs.lemmas.Map.Entries.{lookup-filter-keys}
 use Rattle.std.proofs.lemmas.Map.Made.{lookup-map_values, keys_of-map_values}
 use Rattle.std.proofs.lemmas.Map.Views.{Contains-from_any, list_any-from_Contains}
 use Rattle.ax_base.specs.declared.body.Body.TheVariants.{Words}
+use Rattle.ax_base.specs.declared.body.Body.{Body}
 use Rattle.ax_base.specs.Document.{Document, Node, node, has, root, children, body, is_text, ids, IsChild}
+use Rattle.ax_base.specs.Rects.{HasRectsWithin}
 use Rattle.ax_base.specs.Texts.{IsFitting}
 use Rattle.ax_base.specs.Trees.{IsTree, HasNoRepeats}
 use Rattle.ax_base.proofs.Lookups.{found_is}
@@ -23,6 +25,7 @@ use Rattle.ax_dom.specs.Places.{without}
 use Rattle.ax_dom.specs.Subtrees.{subtree, is_within}
 use Rattle.ax_dom.specs.Changes.{unhung, focus_without, removed}
 use Rattle.ax_dom.proofs.Agreement.{cells_agree}
+use Rattle.ax_dom.proofs.Bounded.{no_runs_within}
 use Rattle.ax_dom.proofs.Fitting.{nothing_fits}
 use Rattle.ax_dom.proofs.SameEntries.{keys-filter}
 use Rattle.ax_dom.proofs.Subtrees.{subtree_has, within_child, root_apart, outside_child}
@@ -134,12 +137,13 @@ module _ (d : Document) (t : IsTree d) (n : ℕ) (apart : n ≢ root) where
       go true on = children_inside q on
       go false off = children_outside q off ∙ ap (without n) (t.bare q (ap is_text (sym (body_outside q off)) ∙ text))
 
-  fits_left : (q : ℕ) → IsFitting (body e q)
-  fits_left q = go (is_within d n q) refl
+  -- what nothing and the old bodies have
+  each_left : (P : Body → Type 0) → P (Words [] []) → ((q : ℕ) → P (body d q)) → (q : ℕ) → P (body e q)
+  each_left P nothing old q = go (is_within d n q) refl
     where
-      go : (x : Bool) → is_within d n q ≡ x → IsFitting (body e q)
-      go true on = subst IsFitting (sym (body_inside q on)) nothing_fits
-      go false off = subst IsFitting (sym (body_outside q off)) (t.fits q)
+      go : (x : Bool) → is_within d n q ≡ x → P (body e q)
+      go true on = subst P (sym (body_inside q on)) nothing
+      go false off = subst P (sym (body_outside q off)) (old q)
 
   pub ids_left : ids e ≡ filter (λ k. not (is_within d n k)) (ids d)
   ids_left = keys-filter (λ k. not (is_within d n k)) (unhung n d.nodes) ∙ ap (filter (λ k. not (is_within d n k))) (keys_of-map_values (unhung_node n) d.nodes)
@@ -172,7 +176,8 @@ module _ (d : Document) (t : IsTree d) (n : ℕ) (apart : n ≢ root) where
     once = once_left;
     bare = bare_left;
     rising = rising_left;
-    fits = fits_left;
+    fits = each_left IsFitting nothing_fits t.fits;
+    within = each_left HasRectsWithin no_runs_within t.within;
     focused = λ f some. focused_left d.focus t.focused f some;
   }
 

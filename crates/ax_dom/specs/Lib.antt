@@ -4,6 +4,7 @@ pub mod Slots
 pub mod Subtrees
 pub mod Rewrites
 pub mod Bodies
+pub mod Bounds
 pub mod Runs
 pub mod Changes
 pub mod Refusals

@@ -8,6 +8,7 @@ use Rattle.ax_base.specs.declared.attrs.Attr.{Attr}
 use Rattle.ax_base.specs.declared.body.Body.{Body}
 use Rattle.ax_base.specs.declared.body.Body.TheVariants.{Element, Words}
 use Rattle.ax_base.specs.Document.{Document, root, has, depth, body, children, lineage, is_text}
+use Rattle.ax_base.specs.Rects.{HasRectsWithin}
 use Rattle.ax_base.specs.Texts.{IsFitting}
 use Rattle.ax_dom.specs.declared.cause.EditCause.{EditCause}
 use Rattle.ax_dom.specs.declared.cause.EditCause.TheVariants.{NoNode, UsedId, BadPlace, NotElement, NotText, IntoItself, RootFixed, TooDeep, TooMany, BadRuns, TooLong, NoMemory}
@@ -165,6 +166,7 @@ pub record MayInsert (d : Document) (id into : ℕ) (before : Option ℕ) (b : B
   pub element : is_text (body d into) ≡ false
   pub low : depth d into < 64
   pub fits : IsFitting b
+  pub within : HasRectsWithin b
 
 -- what a move that nothing refuses has
 pub record MayMove (d : Document) (id into : ℕ) (before : Option ℕ) : Type 0 where

@@ -7,6 +7,7 @@ ghost use Rattle.std.specs.Prelude.{◌≡◌, ◌+◌, IfOk, OnOk, OnErr, IfErr
 ghost use Rattle.ax_base.specs.Document.{children, parent};
 ghost use Rattle.ax_base.specs.Trees.{IsTree};
 ghost use Rattle.ax_dom.specs.Slots.{cell_at};
+ghost use Rattle.ax_dom.specs.Bounds.{EditKeepsBounds};
 ghost use Rattle.ax_dom.specs.Changes.{new_document, edited};
 ghost use Rattle.ax_dom.specs.Refusals.{edit_cause, is_no_memory};
 
@@ -104,8 +105,9 @@ impl Dom {
     }
 
     /// Does an edit. It is refused with the first cause that holds, exactly where one holds, and for want of memory
-    /// only where none does. After a refusal the document is unchanged.
+    /// only where none does. After a refusal the document is unchanged. The rectangles of the edit are within bounds.
     pub fn apply(&mut self, alloc: Global, e: &Edit) -> Result<(), EditCause>
+        requires within { EditKeepsBounds e.now }
         ensures accepted { OnOk result (edit_cause self.old e.now ≡ None) }
         ensures ok { OnOk result (self.new ≡ edited self.old e.now) }
         ensures refused { IfErr result (λ cause. edit_cause self.old e.now ≡ (if is_no_memory cause then None else Some cause)) }

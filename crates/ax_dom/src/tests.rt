@@ -1,5 +1,7 @@
 //! Each public function once, on a small document.
-ghost use Rattle.std.specs.Prelude.{◌≡◌};
+ghost use Rattle.std.specs.Prelude.{◌≡◌, IfOk};
+ghost use Rattle.ax_base.specs.Rects.{IsWithinBounds};
+ghost use Rattle.ax_dom.specs.Bounds.{EditKeepsBounds};
 
 use crate::{Body, Cell, Dom, Edit, EditCause};
 use ax_base::{Attrs, ObjId, Rect, Run, Runs, Steps, Text};
@@ -96,7 +98,9 @@ fn move_nodes(rt: &impl Abort, alloc: Global, dom: &mut Dom) -> Result<(), Fail>
 }
 
 /// A move.
-fn moved(id: u32, into: u32, before: Option<ObjId>) -> Edit {
+fn moved(id: u32, into: u32, before: Option<ObjId>) -> Edit
+    ensures { EditKeepsBounds result }
+{
     Edit::Move {
         id: ObjId(id),
         into: ObjId(into),
@@ -105,7 +109,9 @@ fn moved(id: u32, into: u32, before: Option<ObjId>) -> Edit {
 }
 
 /// A run without a frame.
-fn run(first: u32, past: u32, line: u32) -> Run {
+fn run(first: u32, past: u32, line: u32) -> Run
+    ensures { IsWithinBounds result.rect }
+{
     let rect = Rect {
         x: 0,
         y: 0,
@@ -121,7 +127,9 @@ fn run(first: u32, past: u32, line: u32) -> Run {
 }
 
 /// A paragraph without attributes.
-fn element(alloc: Global, id: u32, into: u32, before: Option<ObjId>) -> Result<Edit, Fail> {
+fn element(alloc: Global, id: u32, into: u32, before: Option<ObjId>) -> Result<Edit, Fail>
+    ensures { IfOk result EditKeepsBounds }
+{
     Ok(Edit::InsertElement {
         id: ObjId(id),
         into: ObjId(into),

@@ -1,15 +1,17 @@
 //! What is told of an object, from its node alone.
 ghost use Rattle.std.specs.Prelude.{◌≡◌, ◌==◌, IfOk, option_copied};
 ghost use Rattle.ax_base.specs.Document.{root};
+ghost use Rattle.ax_base.specs.Trees.{IsTree};
 ghost use Rattle.ax_base.specs.Roles.{role_of, hides_body, hides, ignored_body, ignored};
 ghost use Rattle.ax_base.specs.States.{states_by, level_by, live_by, value_by};
 ghost use Rattle.ax_base.specs.Context.{live_at};
 ghost use Rattle.ax_base.specs.Kids.{kids};
 ghost use Rattle.ax_dom.specs.Slots.{cell_of};
-ghost use Rattle.ax_record.specs.Records.{record_of, holder, frame_of, chars_of, runs_of};
+ghost use Rattle.ax_record.specs.Records.{record_of, holder, chars_of, runs_of};
 
+use crate::frames::frame_of;
 use crate::names::name_of;
-use ax_base::{Body, Ids, Live, NoMemory, ObjId, Rect, Role, Runs, States, Steps, Text};
+use ax_base::{Body, Ids, Live, NoMemory, ObjId, Role, Runs, States, Steps, Text};
 use ax_dom::{Cell, Dom};
 use ax_record::Record;
 use ax_states::live_set_by;
@@ -27,6 +29,7 @@ pub fn record_of<L: Ledger>(
     below: Ids,
     steps: &mut Steps<L>,
 ) -> Result<Record, NoMemory>
+    requires tree { IsTree dom.now }
     requires cell { cell.now ≡ cell_of dom.now cell.now.id }
     requires role { role ≡ role_of (cell.now.id == root) cell.now.body }
     requires live { live ≡ live_at dom.now cell.now.id }
@@ -114,21 +117,6 @@ pub fn live_by(role: Role, node: &Body) -> Option<Live>
     match node {
         Body::Element { attrs, .. } => live_set_by(role, attrs),
         Body::Words { .. } => None,
-    }
-}
-
-/// The frame of an element; a text has none of its own.
-fn frame_of(node: &Body) -> Rect
-    ensures { result ≡ frame_of node.now }
-{
-    match node {
-        Body::Element { frame, .. } => *frame,
-        Body::Words { .. } => Rect {
-            x: 0,
-            y: 0,
-            w: 0,
-            h: 0,
-        },
     }
 }
 

@@ -3,6 +3,7 @@
 
 mod content;
 mod focus;
+mod frames;
 mod names;
 #[cfg(test)]
 mod tests;

@@ -2,7 +2,7 @@
 ghost use Rattle.std.specs.Prelude.{◌≡◌};
 
 use crate::build;
-use ax_base::{Attr, Attrs, Live, ObjId, Role, Steps, Text};
+use ax_base::{Attr, Attrs, Live, ObjId, Rect, Role, Run, Runs, Steps, Text};
 use ax_dom::{Dom, Edit};
 use ax_record::{FreshTree, TreeView};
 use std::alloc::Global;
@@ -132,6 +132,69 @@ fn look_at_news<L: Ledger>(
 fn is_polite_heading(tree: &FreshTree, id: u32, level: u16) -> bool {
     match tree.find(ObjId(id)) {
         Some(found) => found.level == Some(level) && found.live == Live::Polite,
+        None => false,
+    }
+}
+
+/// A run on the right, above the other one.
+const UPPER: Run = Run {
+    first: 0,
+    past: 1,
+    line: 0,
+    rect: Rect {
+        x: 30,
+        y: 20,
+        w: 5,
+        h: 8,
+    },
+};
+
+/// A run on the left, below the other one.
+const LOWER: Run = Run {
+    first: 1,
+    past: 2,
+    line: 1,
+    rect: Rect {
+        x: 10,
+        y: 40,
+        w: 7,
+        h: 8,
+    },
+};
+
+#[test]
+fn a_text_has_the_frame_of_its_runs(rt: HostRuntime) -> Result<(), Fail> {
+    let alloc = rt.alloc();
+    let mut dom = Dom::new(alloc)?;
+    say(alloc, &mut dom, 2, 1, "ab")?;
+    say(alloc, &mut dom, 3, 1, "c")?;
+    let runs = Runs::from_vec(vec![in alloc; UPPER, LOWER]?);
+    dom.apply(alloc, &Edit::SetRuns { id: ObjId(2), runs })?;
+    look_at_frames::<Brand>(&rt, alloc, &dom, Blank::new(1))
+}
+
+fn look_at_frames<L: Ledger>(
+    rt: &impl Abort,
+    alloc: Global,
+    dom: &Dom,
+    blank: Blank,
+) -> Result<(), Fail>
+    requires name { blank.name ≡ L.name }
+    requires parts { blank.parts ≡ L.parts }
+    requires whole { blank.parts ≡ 1 }
+{
+    let (book, share) = blank.open::<L>();
+    let mut steps = Steps::new(book, share);
+    let tree = build(alloc, dom, &mut steps)?;
+    assert!(rt; has_frame(&tree, 2, 10, 20, 25, 28));
+    assert!(rt; has_frame(&tree, 3, 0, 0, 0, 0));
+    Ok(())
+}
+
+/// Whether an object has this frame.
+fn has_frame(tree: &FreshTree, id: u32, x: i32, y: i32, w: i32, h: i32) -> bool {
+    match tree.find(ObjId(id)) {
+        Some(found) => found.frame == Rect { x, y, w, h },
         None => false,
     }
 }

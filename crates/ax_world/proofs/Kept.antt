@@ -8,13 +8,12 @@ use Rattle.std.proofs.lemmas.List.Elements.{All-get_or}
 use Rattle.ax_base.specs.Document.{Document}
 use Rattle.ax_dom.specs.declared.edit.Edit.{Edit}
 use Rattle.ax_dom.specs.Changes.{edited, new_document}
-use Rattle.ax_dom.specs.Refusals.{edit_cause}
 use Rattle.ax_record.specs.Tree.{Tree}
 use Rattle.ax_record.specs.Records.{tree}
 use Rattle.story_check.specs.declared.story.ClientLine.{ClientLine}
 use Rattle.story_check.specs.declared.story.PageLine.TheVariants.{Change, Flush, Until}
 use Rattle.story_check.specs.Stories.{Script, flushes}
-use Rattle.story_check.specs.Moments.{document_at, after_edits, after_flushes, tree_at, AreLinesAccepted}
+use Rattle.story_check.specs.Moments.{document_at, after_edits, after_flushes, tree_at, MayBeDone, AreLinesAccepted}
 use Rattle.ax_ask.specs.declared.transcripts.Entry.{Entry}
 use Rattle.ax_ask.specs.declared.requests.Request.{Request}
 use Rattle.ax_ask.specs.declared.replies.Reply.{Reply}
@@ -58,8 +57,8 @@ kept_start s entries document mine d m a q = record {
   mine_is = tree_of_start s document mine d m;
 }
 
--- the next edit is accepted
-pub next_accepted : (s : Script) (c : State) (document : Document) (waiting : Option Tree) (mine : Tree) (edit : Edit) → IsKept s c document waiting mine → slice_get s.page c.page_done ≡ Some (Change edit) → edit_cause document edit ≡ None
+-- the next edit may be done
+pub next_accepted : (s : Script) (c : State) (document : Document) (waiting : Option Tree) (mine : Tree) (edit : Edit) → IsKept s c document waiting mine → slice_get s.page c.page_done ≡ Some (Change edit) → MayBeDone document edit
 next_accepted s c document waiting mine edit h line = (subst (AreLinesAccepted document) (drop_line s.page c.page_done (Change edit) line) h.accepted).0
 
 pub kept_change : (s : Script) (c : State) (document : Document) (waiting : Option Tree) (mine : Tree) (done : ℕ) (edit : Edit) (now : Document) → IsKept s c document waiting mine → slice_get s.page c.page_done ≡ Some (Change edit) → done ≡ c.page_done + 1 → now ≡ edited document edit → IsKept s (record c { page_done = done }) now waiting mine

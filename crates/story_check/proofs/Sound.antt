@@ -6,19 +6,22 @@ use Rattle.ax_base.specs.Document.{Document}
 use Rattle.ax_dom.specs.declared.edit.Edit.{Edit}
 use Rattle.ax_dom.specs.declared.cause.EditCause.{EditCause}
 use Rattle.ax_dom.specs.declared.cause.EditCause.TheVariants.{NoNode, UsedId, BadPlace, NotElement, NotText, IntoItself, RootFixed, TooDeep, TooMany, BadRuns, TooLong, NoMemory}
+use Rattle.ax_dom.specs.Bounds.{EditKeepsBounds}
 use Rattle.ax_dom.specs.Changes.{edited, new_document}
 use Rattle.ax_dom.specs.Refusals.{edit_cause, first_cause, lacks_node, reuses_id, lacks_place, wants_element, wants_text, goes_into_itself, removes_root, goes_too_deep, is_one_too_many, breaks_runs, is_too_long}
 use Rattle.story_lines.specs.declared.reading.Line.{Line}
 use Rattle.story_lines.specs.declared.reading.Line.TheVariants.{Change as EditLine, Start as StartLine, Flush as FlushLine, Until as UntilLine, Ask as AskLine, Again as AgainLine, Hear as HearLine, Await as AwaitLine, Notices as NoticesLine, Turns as TurnsLine}
 use Rattle.story_lines.specs.declared.reading.LineFail.{LineFail}
+use Rattle.story_lines.specs.Bounds.{KeepsBounds}
 use Rattle.story_lines.specs.Lines.{line_of}
+use Rattle.story_lines.proofs.RectBounds.{line_keeps_bounds}
 use Rattle.story_check.specs.declared.story.PageLine.{PageLine}
 use Rattle.story_check.specs.declared.story.PageLine.TheVariants.{Change, Flush, Until}
 use Rattle.story_check.specs.declared.refusals.Cause.{Cause}
 use Rattle.story_check.specs.declared.refusals.Refusal.{Refusal}
 use Rattle.story_check.specs.declared.refusals.AcceptFail.{AcceptFail}
 use Rattle.story_check.specs.Stories.{Script, unflushed, closed, stuck}
-use Rattle.story_check.specs.Moments.{after_edits, AreAccepted, AreLinesAccepted, IsAccepted}
+use Rattle.story_check.specs.Moments.{after_edits, MayBeDone, AreAccepted, AreLinesAccepted, IsAccepted}
 use Rattle.story_check.specs.Acceptance.{Progress, at_first, cause_of, read_cause, line_cause, line_effect, with_edit, unless, after_line, after_lines, story_of, end_refusal, accept_unless, at_end, ended, judged_lines, Accepts}
 
 -- the document after all edits of these lines
@@ -39,7 +42,7 @@ edits-append : (d : Document) (es : List Edit) (e : Edit) → after_edits d (es 
 edits-append d [] e = refl
 edits-append d (x ∷ es) e = edits-append (edited d x) es e
 
-accepted-append : (d : Document) (es : List Edit) (e : Edit) → AreAccepted d es → edit_cause (after_edits d es) e ≡ None → AreAccepted d (es ++ e ∷ [])
+accepted-append : (d : Document) (es : List Edit) (e : Edit) → AreAccepted d es → MayBeDone (after_edits d es) e → AreAccepted d (es ++ e ∷ [])
 accepted-append d [] e h c = (c, tt)
 accepted-append d (x ∷ es) e h c = (h.0, accepted-append (edited d x) es e h.1 c)
 
@@ -49,7 +52,7 @@ page-append d (Change x ∷ xs) e = page-append (edited d x) xs e
 page-append d (Flush ∷ xs) e = page-append d xs e
 page-append d (Until k ∷ xs) e = page-append d xs e
 
-lines-append : (d : Document) (xs : List PageLine) (e : Edit) → AreLinesAccepted d xs → edit_cause (after_page d xs) e ≡ None → AreLinesAccepted d (xs ++ Change e ∷ [])
+lines-append : (d : Document) (xs : List PageLine) (e : Edit) → AreLinesAccepted d xs → MayBeDone (after_page d xs) e → AreLinesAccepted d (xs ++ Change e ∷ [])
 lines-append d [] e h c = (c, tt)
 lines-append d (Change x ∷ xs) e h c = (h.0, lines-append (edited d x) xs e h.1 c)
 lines-append d (Flush ∷ xs) e h c = lines-append d xs e h c
@@ -123,8 +126,8 @@ unless-ok : (n : ℕ) (c : Option Cause) (p q : Progress) → unless n c p ≡ O
 unless-ok n None p q e = (refl, cc)
 unless-ok n (Some c) p q e = absurd (cc)
 
-sound-edit : (p : Progress) (e : Edit) → edit_cause p.document e ≡ None → IsSound p → IsSound (with_edit e (record p { document = edited p.document e }))
-sound-edit p e c h = through p.started refl
+sound-edit : (p : Progress) (e : Edit) → edit_cause p.document e ≡ None → EditKeepsBounds e → IsSound p → IsSound (with_edit e (record p { document = edited p.document e }))
+sound-edit p e c near h = through p.started refl
   where
     base : Document
     base = after_edits new_document p.base
@@ -135,7 +138,7 @@ sound-edit p e c h = through p.started refl
     through : (b : Bool) → p.started ≡ b → IsSound (if b then record p { document = edited p.document e; page = p.page ++ Change e ∷ [] } else record p { document = edited p.document e; base = p.base ++ e ∷ [] })
     through true s = record {
       base = h.base;
-      lines = lines-append base p.page e h.lines free;
+      lines = lines-append base p.page e h.lines (free, near);
       now = page-append base p.page e ∙ ap (λ (d : Document). edited d e) h.now;
       unstarted = λ f. absurd (cc);
     }
@@ -144,7 +147,7 @@ sound-edit p e c h = through p.started refl
         let here : edit_cause base e ≡ None = subst (λ (xs : List PageLine). edit_cause (after_page base xs) e ≡ None) none free in
         let there : base ≡ p.document = subst (λ (xs : List PageLine). after_page base xs ≡ p.document) none h.now in
         record {
-          base = accepted-append new_document p.base e h.base here;
+          base = accepted-append new_document p.base e h.base (here, near);
           lines = subst (λ (xs : List PageLine). AreLinesAccepted (after_edits new_document (p.base ++ e ∷ [])) xs) (sym none) tt;
           now = ap (after_page (after_edits new_document (p.base ++ e ∷ []))) none ∙ edits-append new_document p.base e ∙ ap (λ (d : Document). edited d e) there;
           unstarted = h.unstarted;
@@ -172,26 +175,26 @@ started-first : (b : Bool) (o : Option Cause) (c : Cause) → (if not b then Som
 started-first true o c e = refl
 started-first false o c e = absurd (cc)
 
-sound-line : (n : ℕ) (p : Progress) (line : Line) → line_cause p line ≡ None → IsSound p → IsSound (line_effect n p line)
-sound-line n p (EditLine e) c h = sound-edit p e (free_edit p.document e c) h
-sound-line n p StartLine c h = record { base = h.base; lines = h.lines; now = h.now; unstarted = λ f. absurd (cc) }
-sound-line n p FlushLine c h = sound-page p Flush (λ b. refl) (λ b. tt) (started-first p.started _ _ c) h
-sound-line n p (UntilLine k) c h = sound-page p (Until k) (λ b. refl) (λ b. tt) (started-first p.started _ _ c) h
-sound-line n p (AskLine r) c h = sound-beside p _ refl refl refl (λ f. f) h
-sound-line n p (AgainLine r) c h = sound-beside p _ refl refl refl (λ f. f) h
-sound-line n p HearLine c h = sound-beside p _ refl refl refl (λ f. f) h
-sound-line n p (AwaitLine a) c h = sound-beside p _ refl refl refl (λ f. f) h
-sound-line n p NoticesLine c h = sound-beside p _ refl refl refl (λ f. f) h
-sound-line n p (TurnsLine t) c h = sound-beside p _ refl refl refl (λ f. f) h
+sound-line : (n : ℕ) (p : Progress) (line : Line) → line_cause p line ≡ None → KeepsBounds line → IsSound p → IsSound (line_effect n p line)
+sound-line n p (EditLine e) c near h = sound-edit p e (free_edit p.document e c) near h
+sound-line n p StartLine c near h = record { base = h.base; lines = h.lines; now = h.now; unstarted = λ f. absurd (cc) }
+sound-line n p FlushLine c near h = sound-page p Flush (λ b. refl) (λ b. tt) (started-first p.started _ _ c) h
+sound-line n p (UntilLine k) c near h = sound-page p (Until k) (λ b. refl) (λ b. tt) (started-first p.started _ _ c) h
+sound-line n p (AskLine r) c near h = sound-beside p _ refl refl refl (λ f. f) h
+sound-line n p (AgainLine r) c near h = sound-beside p _ refl refl refl (λ f. f) h
+sound-line n p HearLine c near h = sound-beside p _ refl refl refl (λ f. f) h
+sound-line n p (AwaitLine a) c near h = sound-beside p _ refl refl refl (λ f. f) h
+sound-line n p NoticesLine c near h = sound-beside p _ refl refl refl (λ f. f) h
+sound-line n p (TurnsLine t) c near h = sound-beside p _ refl refl refl (λ f. f) h
 
-sound-after : (n : ℕ) (p q : Progress) (r : Result (Option Line) LineFail) → IsSound p → after_line n p r ≡ Ok q → IsSound q
-sound-after n p q (Ok None) h e = subst (λ (z : Progress). IsSound z) (unless-ok n None p q e).1 h
-sound-after n p q (Ok (Some line)) h e = let both = unless-ok n (line_cause p line) (line_effect n p line) q e in subst (λ (z : Progress). IsSound z) both.1 (sound-line n p line both.0 h)
-sound-after n p q (Err fail) h e = let both = unless-ok n (read_cause fail) p q e in subst (λ (z : Progress). IsSound z) both.1 h
+sound-after : (n : ℕ) (p q : Progress) (r : Result (Option Line) LineFail) → ((line : Line) → r ≡ Ok (Some line) → KeepsBounds line) → IsSound p → after_line n p r ≡ Ok q → IsSound q
+sound-after n p q (Ok None) near h e = subst (λ (z : Progress). IsSound z) (unless-ok n None p q e).1 h
+sound-after n p q (Ok (Some line)) near h e = let both = unless-ok n (line_cause p line) (line_effect n p line) q e in subst (λ (z : Progress). IsSound z) both.1 (sound-line n p line both.0 (near line refl) h)
+sound-after n p q (Err fail) near h e = let both = unless-ok n (read_cause fail) p q e in subst (λ (z : Progress). IsSound z) both.1 h
 
 sound-lines : (n : ℕ) (p q : Progress) (lines : List (List ℕ)) → IsSound p → after_lines n p lines ≡ Ok q → IsSound q
 sound-lines n p q [] h e = subst (λ (z : Progress). IsSound z) (unless-ok n None p q e).1 h
-sound-lines n p q (l ∷ ls) h e = through (after_line n p (line_of l)) (λ z. sound-after n p z (line_of l) h) e (λ z. sound-lines (n + 1) z q ls)
+sound-lines n p q (l ∷ ls) h e = through (after_line n p (line_of l)) (λ z. sound-after n p z (line_of l) (line_keeps_bounds l) h) e (λ z. sound-lines (n + 1) z q ls)
   where
     through : (r : Result Progress Refusal) → ((z : Progress) → r ≡ Ok z → IsSound z) → elim r as (λ (w : Result Progress Refusal). Result Progress Refusal) [ Ok z ↦ after_lines (n + 1) z ls | Err z ↦ Err z ] ≡ Ok q → ((z : Progress) → IsSound z → after_lines (n + 1) z ls ≡ Ok q → IsSound q) → IsSound q
     through (Ok z) f g more = more z (f z refl) g

@@ -2,6 +2,7 @@
 use Rattle.std.specs.Prelude.{◌≡◌, ℕ, zero, suc, List, [], ◌∷◌, None}
 use Rattle.ax_base.specs.Document.{Document}
 use Rattle.ax_dom.specs.declared.edit.Edit.{Edit}
+use Rattle.ax_dom.specs.Bounds.{EditKeepsBounds}
 use Rattle.ax_dom.specs.Changes.{edited, new_document}
 use Rattle.ax_dom.specs.Refusals.{edit_cause}
 use Rattle.ax_record.specs.Tree.{Tree}
@@ -31,19 +32,23 @@ document_at s k = after_flushes (after_edits new_document s.base) s.page k
 unfoldable pub tree_at : Script → ℕ → Tree
 tree_at s k = tree (document_at s k)
 
--- each of these edits is accepted, one after another
+-- nothing refuses an edit, and its rectangles are within bounds
+abbrev pub MayBeDone : Document → Edit → Type 0
+MayBeDone d e = (edit_cause d e ≡ None) × EditKeepsBounds e
+
+-- each of these edits may be done, one after another
 abbrev pub AreAccepted : Document → List Edit → Type 0
 AreAccepted d [] = Unit {0}
-AreAccepted d (e ∷ es) = (edit_cause d e ≡ None) × AreAccepted (edited d e) es
+AreAccepted d (e ∷ es) = MayBeDone d e × AreAccepted (edited d e) es
 
--- each edit of these lines is accepted, one after another
+-- each edit of these lines may be done, one after another
 abbrev pub AreLinesAccepted : Document → List PageLine → Type 0
 AreLinesAccepted d [] = Unit {0}
-AreLinesAccepted d (Change e ∷ xs) = (edit_cause d e ≡ None) × AreLinesAccepted (edited d e) xs
+AreLinesAccepted d (Change e ∷ xs) = MayBeDone d e × AreLinesAccepted (edited d e) xs
 AreLinesAccepted d (Flush ∷ xs) = AreLinesAccepted d xs
 AreLinesAccepted d (Until k ∷ xs) = AreLinesAccepted d xs
 
--- every edit of a story is accepted
+-- every edit of a story may be done
 pub record IsAccepted (s : Script) : Type 0 where
   pub base : AreAccepted new_document s.base
   pub lines : AreLinesAccepted (after_edits new_document s.base) s.page

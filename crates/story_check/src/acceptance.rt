@@ -14,7 +14,7 @@ use std::alloc::Global;
 const MAX_BYTES: usize = 16_777_216;
 
 /// The story of these bytes, or their first refusal. It takes one pass over the lines, and every edit of a story is accepted
-/// in the document after all earlier ones, and no line of it can wait for ever.
+/// in the document after all earlier ones and has its rectangles within bounds, and no line of it can wait for ever.
 pub fn accept(alloc: Global, bytes: &[u8]) -> Result<Story, AcceptFail>
     ensures value { Accepts result (judged bytes.now) }
     ensures accepted { IfOk result (λ s. IsAccepted s) }

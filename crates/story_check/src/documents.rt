@@ -1,5 +1,6 @@
 //! The documents of a story's moments.
 ghost use Rattle.std.specs.Prelude.{◌≡◌, None, IfOk, OnOk};
+ghost use Rattle.ax_dom.specs.Bounds.{EditKeepsBounds};
 ghost use Rattle.ax_dom.specs.Changes.{edited, new_document};
 ghost use Rattle.ax_dom.specs.Refusals.{edit_cause};
 ghost use Rattle.story_check.specs.Stories.{flushes};
@@ -29,9 +30,10 @@ pub fn last_dom(alloc: Global, story: &Story) -> Result<Dom, NoMemory>
     flushed_dom(alloc, document, story.page(), story.flushes())
 }
 
-/// Does an edit that nothing refuses, so that only memory can be wanting.
+/// Does an edit that nothing refuses, so that only memory can be wanting. Its rectangles are within bounds.
 pub fn change(alloc: Global, document: &mut Dom, edit: &Edit) -> Result<(), NoMemory>
-    requires { edit_cause document.old edit.now ≡ None }
+    requires free { edit_cause document.old edit.now ≡ None }
+    requires within { EditKeepsBounds edit.now }
     ensures { OnOk result (document.new ≡ edited document.old edit.now) }
 {
     match document.apply(alloc, edit) {

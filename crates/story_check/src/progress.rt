@@ -2,7 +2,9 @@
 ghost use Rattle.std.specs.Prelude.{◌≡◌, ◌<◌, ◌≤◌, map, length, IfOk, OnOk};
 ghost use Rattle.std.specs.List.{list_all};
 ghost use Rattle.std.specs.Option.{option_map};
+ghost use Rattle.ax_dom.specs.Bounds.{EditKeepsBounds};
 ghost use Rattle.story_lines.specs.declared.reading.Line.TheVariants.{Change as EditLine, Start as StartLine, Flush as FlushLine, Until as UntilLine, Await as AwaitLine, Turns as TurnsLine};
+ghost use Rattle.story_lines.specs.Bounds.{KeepsBounds};
 ghost use Rattle.story_lines.specs.Lines.{line_of};
 ghost use Rattle.story_check.specs.declared.story.PageLine.TheVariants.{Flush, Until};
 ghost use Rattle.story_check.specs.Stories.{flushes, closed};
@@ -200,6 +202,7 @@ impl Reading {
 
     /// Takes what a line says, or refuses it.
     fn take(&mut self, alloc: Global, number: u32, line: Line) -> Result<(), AcceptFail>
+        requires { KeepsBounds line }
         ensures { Comes result self.new (unless number (line_cause self.old line) (line_effect number self.old line)) }
     {
         match line {
@@ -218,6 +221,7 @@ impl Reading {
 
     /// Takes an edit.
     fn change(&mut self, alloc: Global, number: u32, edit: Edit) -> Result<(), AcceptFail>
+        requires { EditKeepsBounds edit }
         ensures { Comes result self.new (unless number (line_cause self.old (EditLine edit)) (line_effect number self.old (EditLine edit))) }
     {
         match self.dom.apply(alloc, &edit) {

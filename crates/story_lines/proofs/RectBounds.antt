@@ -1,12 +1,15 @@
 -- The rectangles of a line are within bounds.
-use Rattle.std.proofs.Common.{◌≡◌, ℕ, ◌-◌, ◌^◌, ◌≤◌, ◌<◌, ℤ, pos, negsuc, ◌≤ℤ◌, ◌&&◌, [], ◌∷◌, Bool, true, false, cond, Option, Some, None, option_map, option_and_then, refl, subst, arith}
+use Rattle.std.proofs.Common.{◌≡◌, ℕ, ◌-◌, ◌^◌, ◌≤◌, ◌<◌, ℤ, pos, negsuc, ◌≤ℤ◌, ◌&&◌, [], ◌∷◌, Bool, true, false, cond, Option, Some, None, Result, Ok, ◌∙◌, option_map, option_and_then, refl, subst, arith}
 use Rattle.std.specs.Prelude.{IfSome, All, nat_le, nat_lt, codes}
+use Rattle.std.specs.Option.{ok_or}
 use Rattle.std.proofs.lemmas.Bool.{leb-true, ltb-true}
 use Rattle.std.proofs.lemmas.Int.{ints}
 use Rattle.std.proofs.lemmas.List.Elements.{All-cons, All-nil}
 use Rattle.std.specs.Cmp.{second_so}
 use Rattle.serde_json.specs.Data.{Data, Items, no_items, item}
+use Rattle.serde_json.specs.Read.{read}
 use Rattle.serde_json.specs.Find.{get, as_array, as_number, as_i64}
+use Rattle.ax_base.specs.Characters.{Chars}
 use Rattle.ax_base.specs.declared.rect.Rect.{Rect}
 use Rattle.ax_base.specs.declared.rect.Run.{Run}
 use Rattle.ax_dom.specs.declared.edit.Edit.TheVariants.{InsertElement, InsertText, Remove, Move, Set, Unset, Chars as SetChars, SetRuns, Frame, Focus}
@@ -18,7 +21,11 @@ use Rattle.story_lines.specs.Requests.{request_by}
 use Rattle.story_lines.specs.Attributes.{maybe_attributes}
 use Rattle.story_lines.specs.Forms.{insert_element_of, insert_text_of, remove_of, move_of, set_of, unset_of, text_of, runs_of, frame_of, focus_of, edit_of, start_of, flush_of, until_of, ask_of, again_of, hear_of, await_of, notices_of, turns_of, form_of}
 use Rattle.ax_base.specs.Rects.{IsWithinBounds}
-use Rattle.story_lines.specs.Bounds.{EditKeepsBounds, KeepsBounds}
+use Rattle.ax_dom.specs.Bounds.{EditKeepsBounds}
+use Rattle.story_lines.specs.Bounds.{KeepsBounds}
+use Rattle.story_lines.specs.declared.reading.LineFail.{LineFail}
+use Rattle.story_lines.specs.declared.reading.LineFail.TheVariants.{BadJson, BadLine}
+use Rattle.story_lines.specs.Lines.{◌>>=◌, is_blank_line, said_by, line_of}
 
 -- what a reading gives is such
 record Gives {A : Type 0} (o : Option A) (P : A → Type 0) : Type 0 where
@@ -173,3 +180,16 @@ line_gives d =
 -- a line that a value has keeps the bounds
 pub form_keeps_bounds : (d : Data) (line : Line) → form_of d ≡ Some line → KeepsBounds line
 form_keeps_bounds d line e = let P : Option Line → Type 0 = λ o. IfSome o KeepsBounds in subst P e (line_gives d).fact
+
+-- and so has one that a text says
+pub line_keeps_bounds : (text : Chars) (line : Line) → line_of text ≡ Ok (Some line) → KeepsBounds line
+line_keeps_bounds text line e = through (is_blank_line text) (read text) e
+  where
+    read_form : (d : Data) (o : Option Line) → form_of d ≡ o → ◌≡◌ {A = Result (Option Line) LineFail} (ok_or o BadLine >>= λ l. Ok (Some l)) (Ok (Some line)) → KeepsBounds line
+    read_form d None is e = absurd (cc)
+    read_form d (Some l) is e = form_keeps_bounds d line (is ∙ (cc))
+
+    through : (b : Bool) (o : Option Data) → ◌≡◌ {A = Result (Option Line) LineFail} (cond b (Ok None) (ok_or o BadJson >>= said_by)) (Ok (Some line)) → KeepsBounds line
+    through true o e = absurd (cc)
+    through false None e = absurd (cc)
+    through false (Some d) e = read_form d (form_of d) refl e

@@ -3,6 +3,7 @@ ghost use Rattle.std.specs.Prelude.{◌≡◌, ◌≢◌, nat_eq, OnOk, OnErr, N
 ghost use Rattle.std.specs.List.{list_any};
 ghost use Rattle.ax_base.specs.Document.{root, has, body};
 ghost use Rattle.ax_dom.specs.Bodies.{body_after};
+ghost use Rattle.ax_dom.specs.Bounds.{EditKeepsBounds};
 ghost use Rattle.ax_dom.specs.Changes.{inserted, removed, moved, focus_outside, with_body, with_focus, edited};
 ghost use Rattle.ax_dom.specs.Refusals.{MayInsert, MayMove, may_focus, edit_cause, is_too_long};
 
@@ -16,7 +17,8 @@ use std::alloc::Global;
 impl Dom {
     /// Does an edit that nothing refuses. At an error nothing changes.
     pub(super) fn carry_out(&mut self, alloc: Global, e: &Edit) -> Result<(), NoMemory>
-        requires { edit_cause self.old e.now ≡ None }
+        requires free { edit_cause self.old e.now ≡ None }
+        requires within { EditKeepsBounds e.now }
         ensures ok { OnOk result (self.new ≡ edited self.old e.now) }
         ensures err { OnErr result (self.new ≡ self.old) }
     {
@@ -95,6 +97,7 @@ impl Dom {
     fn amend(&mut self, alloc: Global, id: ObjId, e: &Edit) -> Result<(), NoMemory>
         requires known { IsTrue (has self.old id) }
         requires short { is_too_long e.now ≡ false }
+        requires within { EditKeepsBounds e.now }
         ensures ok { OnOk result (self.new ≡ with_body self.old id (body_after e.now (body self.old id))) }
         ensures err { OnErr result (self.new ≡ self.old) }
     {
