@@ -48,6 +48,6 @@ complete_from words mine left new reads reads' writes writes' taken input status
     answers command other status text (subst (λ c. MayAnswer c other status text) same (subst (λ i. MayAnswer mine i status text) (e ∙ read) h))
 
 -- what a command writes of an accepted story
-pub does : (command : Command) (input : List ℕ) (story : Script) (text : List ℕ) → Accepted command input story → IsLegal story (played story).entries → text ≡ text_of command story → Does command input text
+pub does : (command : Command) (input : List ℕ) (story : Script) (text : List ℕ) → Accepted input story → IsLegal story (played story).entries → text ≡ text_of command story → Does command input text
 does Dump input story text a legal t = (story, a, t)
 does Replay input story text a legal t = (story, a, legal, t)

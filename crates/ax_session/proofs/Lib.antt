@@ -1,4 +1,4 @@
-pub mod KindLaws
+pub mod BuiltLaws
 pub mod Complete
 pub mod Lines
 pub mod Rows

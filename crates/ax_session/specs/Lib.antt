@@ -1,6 +1,5 @@
 pub mod Command
 pub mod Built
-pub mod Kinds
 pub mod Story
 pub mod Texts
 pub mod Refusals

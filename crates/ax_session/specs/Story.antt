@@ -1,16 +1,15 @@
--- Which inputs are stories that are built for a command, and why another one is refused.
+-- Which inputs are stories that are built, and why another one is refused.
 use Rattle.std.specs.Prelude.{◌≡◌, ℕ, List, false, if◌then◌else◌, Result, Ok, Err}
 use Rattle.story_check.specs.declared.refusals.Refusal.{Refusal as StoryRefusal}
 use Rattle.story_check.specs.Stories.{Script, stuck}
 use Rattle.story_check.specs.Moments.{IsAccepted}
 use Rattle.story_check.specs.Acceptance.{judged as story_of}
 use Rattle.ax_world.specs.Moments.{AreAnswered}
-use Rattle.ax_session.specs.declared.words.Command.{Command}
 use Rattle.ax_session.specs.declared.story.Cause.TheVariants.{NotBuilt, Story}
 use Rattle.ax_session.specs.declared.story.Refusal.{Refusal}
 use Rattle.ax_session.specs.declared.story.AcceptFail.{AcceptFail}
 use Rattle.ax_session.specs.declared.story.AcceptFail.TheVariants.{Refused, NoMemory}
-use Rattle.ax_session.specs.Built.{is_built_for}
+use Rattle.ax_session.specs.Built.{is_built}
 
 -- the refusal of an input that is no story, as it is
 abbrev pub of_story : StoryRefusal → Refusal
@@ -19,26 +18,26 @@ of_story r = record { line = r.line; cause = Story r.cause }
 abbrev pub not_built : Refusal
 not_built = record { line = 0; cause = NotBuilt }
 
--- an accepted story, if it is built for the command
-abbrev pub if_built : Command → Script → Result Script Refusal
-if_built command s = if is_built_for command s then Ok s else Err not_built
+-- an accepted story, if it is built
+abbrev pub if_built : Script → Result Script Refusal
+if_built s = if is_built s then Ok s else Err not_built
 
--- what is not accepted keeps its refusal, and what is accepted has to be built for the command
-abbrev pub built_of : Command → Result Script StoryRefusal → Result Script Refusal
-built_of command (Ok s) = if_built command s
-built_of command (Err r) = Err (of_story r)
+-- what is not accepted keeps its refusal, and what is accepted has to be built
+abbrev pub built_of : Result Script StoryRefusal → Result Script Refusal
+built_of (Ok s) = if_built s
+built_of (Err r) = Err (of_story r)
 
--- what the bytes are: an accepted story that is built for the command, or the first refusal
-unfoldable pub judged : Command → List ℕ → Result Script Refusal
-judged command bytes = built_of command (story_of bytes)
+-- what the bytes are: an accepted story that is built, or the first refusal
+unfoldable pub judged : List ℕ → Result Script Refusal
+judged bytes = built_of (story_of bytes)
 
--- the bytes are this story, which is built for the command
-abbrev pub Accepted : Command → List ℕ → Script → Type 0
-Accepted command bytes story = judged command bytes ≡ Ok story
+-- the bytes are this story
+abbrev pub Accepted : List ℕ → Script → Type 0
+Accepted bytes story = judged bytes ≡ Ok story
 
--- this is the first refusal of the bytes by the command
-abbrev pub IsRefused : Command → List ℕ → Refusal → Type 0
-IsRefused command bytes refusal = judged command bytes ≡ Err refusal
+-- this is the first refusal of the bytes
+abbrev pub IsRefused : List ℕ → Refusal → Type 0
+IsRefused bytes refusal = judged bytes ≡ Err refusal
 
 -- An answer is what the bytes are, or want of memory.
 abbrev pub AcceptFails : {A : Type 0} → AcceptFail → Result A Refusal → Type 0
@@ -49,7 +48,7 @@ abbrev pub Accepts : {A : Type 0} → Result A AcceptFail → Result A Refusal �
 Accepts (Ok story) what = what ≡ Ok story
 Accepts (Err fail) what = AcceptFails fail what
 
--- what every story has that is accepted and built for some command
+-- what every story has that is accepted and built
 pub record IsReady (s : Script) : Type 0 where
   pub accepted : IsAccepted s
   pub free : stuck s ≡ false

@@ -20,18 +20,18 @@ use Rattle.ax_session.specs.Texts.{dump_text, replay_text}
 -- The input is one that the command does, and this text shows what it comes to. What is replayed is legal: each reply is that of the
 -- tree built afresh from the document after the edits flushed by its moment, and no moment falls.
 abbrev pub Does : Command → List ℕ → List ℕ → Type 0
-Does Dump input text = (story : Script) × Accepted Dump input story × (text ≡ dump_text story)
-Does Replay input text = (story : Script) × Accepted Replay input story × IsLegal story (played story).entries × (text ≡ replay_text story)
+Does Dump input text = (story : Script) × Accepted input story × (text ≡ dump_text story)
+Does Replay input text = (story : Script) × Accepted input story × IsLegal story (played story).entries × (text ≡ replay_text story)
 
 -- the input is one that the command does
 abbrev pub IsGood : Command → List ℕ → Type 0
-IsGood Dump input = (story : Script) × Accepted Dump input story
-IsGood Replay input = (story : Script) × Accepted Replay input story
+IsGood Dump input = (story : Script) × Accepted input story
+IsGood Replay input = (story : Script) × Accepted input story
 
 -- this is the refusal of the input
 abbrev pub Refuses : Command → List ℕ → Refusal → Type 0
-Refuses Dump input refusal = IsRefused Dump input refusal
-Refuses Replay input refusal = IsRefused Replay input refusal
+Refuses Dump input refusal = IsRefused input refusal
+Refuses Replay input refusal = IsRefused input refusal
 
 -- a command that reads the source
 abbrev pub IsReader : Command → Type 0

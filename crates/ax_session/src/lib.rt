@@ -3,7 +3,6 @@
 
 mod built;
 mod dump;
-mod nameless;
 mod refusals;
 mod replay;
 mod story;

@@ -1,13 +1,11 @@
-//! Which inputs are stories that are built for a command.
+//! Which inputs are stories that are built.
 ghost use Rattle.std.specs.Prelude.{◌≡◌, IfOk, Ok, false};
 ghost use Rattle.story_check.specs.Stories.{stuck};
 ghost use Rattle.story_check.specs.Moments.{IsAccepted};
 ghost use Rattle.ax_session.specs.declared.story.AcceptFail.{AcceptFail};
 ghost use Rattle.ax_session.specs.Story.{of_story, if_built, judged, Accepts, IsReady};
 
-use crate::Command;
-use crate::built::is_built_for;
-use ax_base::NoMemory;
+use crate::built::is_built;
 use std::alloc::Global;
 use story_check::{
     AcceptFail as StoryFail, Cause as StoryCause, Refusal as StoryRefusal, Story,
@@ -17,7 +15,7 @@ use story_check::{
 /// Why an input is refused.
 #[derive(Clone, Copy, Debug, PartialEq, Eq)]
 pub enum Cause {
-    /// The input is an accepted story, but none that is built today for the command.
+    /// The input is an accepted story, but none that is built today.
     NotBuilt,
     /// The input is no accepted story.
     Story(StoryCause),
@@ -40,27 +38,27 @@ pub enum AcceptFail {
     NoMemory,
 }
 
-impl From<NoMemory> for AcceptFail {
-    ghost from_gives = { λ _ fail. fail ≡ AcceptFail.NoMemory };
+impl From<Refusal> for AcceptFail {
+    ghost from_gives = { λ refusal fail. fail ≡ AcceptFail.Refused refusal };
 
-    fn from(_: NoMemory) -> AcceptFail {
-        AcceptFail::NoMemory
+    fn from(refusal: Refusal) -> AcceptFail {
+        AcceptFail::Refused(refusal)
     }
 }
 
-const NOT_BUILT: AcceptFail = AcceptFail::Refused(Refusal {
+const NOT_BUILT: Refusal = Refusal {
     line: 0,
     cause: Cause::NotBuilt,
-});
+};
 
-/// The story that the bytes are, if it is accepted and built for the command, or the first refusal.
+/// The story that the bytes are, if it is accepted and built, or the first refusal.
 #[tactic(auto, unfolding(crate::specs::Story::judged))]
-pub fn accept(alloc: Global, command: Command, bytes: &[u8]) -> Result<Story, AcceptFail>
-    ensures value { Accepts result (judged command bytes.now) }
+pub fn accept(alloc: Global, bytes: &[u8]) -> Result<Story, AcceptFail>
+    ensures value { Accepts result (judged bytes.now) }
     ensures ready { IfOk result (λ s. IsReady s) }
 {
     match accept_story(alloc, bytes) {
-        Ok(story) => if_built(alloc, command, story),
+        Ok(story) => Ok(if_built(story)?),
         Err(StoryFail::Refused(refusal)) => Err(AcceptFail::Refused(of_story(refusal))),
         Err(StoryFail::NoMemory) => Err(AcceptFail::NoMemory),
     }
@@ -76,14 +74,14 @@ fn of_story(refusal: StoryRefusal) -> Refusal
     }
 }
 
-/// An accepted story, if it is built for the command.
-fn if_built(alloc: Global, command: Command, story: Story) -> Result<Story, AcceptFail>
+/// An accepted story, if it is built.
+fn if_built(story: Story) -> Result<Story, Refusal>
     requires accepted { IsAccepted story }
     requires free { stuck story ≡ false }
-    ensures value { Accepts result (if_built command story) }
+    ensures value { result ≡ if_built story }
     ensures ready { IfOk result (λ s. IsReady s) }
 {
-    if is_built_for(alloc, command, &story)? {
+    if is_built(&story) {
         Ok(story)
     } else {
         Err(NOT_BUILT)

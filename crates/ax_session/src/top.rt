@@ -100,7 +100,7 @@ struct Reply {
 fn reply_to(alloc: Global, command: Command, input: &[u8]) -> Result<Reply, NoMemory>
     ensures { IfOk result (λ reply. MayAnswer command input.now reply.status reply.text) }
 {
-    match accept(alloc, command, input) {
+    match accept(alloc, input) {
         Ok(story) => Ok(Reply {
             status: Status::Done,
             text: text_of(alloc, command, &story)?,
@@ -113,7 +113,7 @@ fn reply_to(alloc: Global, command: Command, input: &[u8]) -> Result<Reply, NoMe
     }
 }
 
-/// What a command writes of a story that is accepted and built for it. What is played of it is legal.
+/// What a command writes of a story that is accepted and built. What is played of it is legal.
 fn text_of(alloc: Global, command: Command, story: &Story) -> Result<Text, NoMemory>
     requires { IsReady story.now }
     ensures text { IfOk result (λ text. text ≡ text_of command story.now) }
