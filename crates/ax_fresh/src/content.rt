@@ -1,18 +1,19 @@
 //! What is told of an object, from its node alone.
-ghost use Rattle.std.specs.Prelude.{◌≡◌, ◌==◌, IfOk, option_copied};
+ghost use Rattle.std.specs.Prelude.{◌≡◌, ◌==◌, IfOk, OnOk, option_copied};
 ghost use Rattle.ax_base.specs.Document.{root};
 ghost use Rattle.ax_base.specs.Trees.{IsTree};
-ghost use Rattle.ax_base.specs.Roles.{role_of, hides_body, hides, ignored_body, ignored};
+ghost use Rattle.ax_base.specs.Roles.{role_of};
 ghost use Rattle.ax_base.specs.States.{states_by, level_by, live_by, value_by};
 ghost use Rattle.ax_base.specs.Context.{live_at};
 ghost use Rattle.ax_base.specs.Kids.{kids};
 ghost use Rattle.ax_dom.specs.Slots.{cell_of};
+ghost use Rattle.ax_names.specs.Sessions.{AreNamesOf};
 ghost use Rattle.ax_record.specs.Records.{record_of, holder, chars_of, runs_of};
 
 use crate::frames::frame_of;
-use crate::names::name_of;
 use ax_base::{Body, Ids, Live, NoMemory, ObjId, Role, Runs, States, Steps, Text};
 use ax_dom::{Cell, Dom};
+use ax_names::Names;
 use ax_record::Record;
 use ax_states::live_set_by;
 use std::alloc::Global;
@@ -22,6 +23,7 @@ use std::sync::ledger::Ledger;
 pub fn record_of<L: Ledger>(
     alloc: Global,
     dom: &Dom,
+    names: &mut Names,
     cell: &Cell,
     role: Role,
     live: Live,
@@ -35,13 +37,15 @@ pub fn record_of<L: Ledger>(
     requires live { live ≡ live_at dom.now cell.now.id }
     requires parent { parent ≡ holder dom.now cell.now.id }
     requires kids { below ≡ kids dom.now cell.now.id }
-    ensures { IfOk result (λ r. r ≡ record_of dom.now cell.now.id) }
+    requires names { AreNamesOf dom.now names.old }
+    ensures value { IfOk result (λ r. r ≡ record_of dom.now cell.now.id) }
+    ensures names { OnOk result (AreNamesOf dom.now names.new) }
 {
     Ok(Record {
         id: cell.id,
         role,
-        name: name_of(alloc, dom, cell, role, steps)?,
-        description: Text::new(alloc),
+        name: names.name_of(alloc, dom, cell, role, steps)?,
+        description: names.description_of(alloc, dom, cell, role, steps)?,
         value: value_of(alloc, role, &cell.body)?,
         states: states_of(role, &cell.body),
         level: level_of(role, &cell.body),
@@ -137,54 +141,5 @@ fn runs_of(alloc: Global, node: &Body) -> Result<Runs, NoMemory>
     match node {
         Body::Element { .. } => Ok(Runs::new(alloc)),
         Body::Words { runs, .. } => runs.copy(alloc),
-    }
-}
-
-/// The role of a node.
-pub fn role_of(id: ObjId, node: &Body) -> Role
-    ensures { result ≡ role_of (id == root) node.now }
-{
-    match node {
-        Body::Words { .. } => Role::Text,
-        Body::Element { tag, attrs, .. } => {
-            if id.number() == 1 {
-                Role::Document
-            } else {
-                ax_roles::role_of(tag.as_str(), attrs)
-            }
-        }
-    }
-}
-
-/// Whether a node leaves out itself and what is below it.
-pub fn hides(id: ObjId, node: &Body) -> bool
-    ensures { result ≡ hides (record { id = id; body = node.now }) }
-{
-    id.number() != 1 && hides_body(node)
-}
-
-fn hides_body(node: &Body) -> bool
-    ensures { result ≡ hides_body node.now }
-{
-    match node {
-        Body::Element { tag, attrs, .. } => ax_roles::hides(tag.as_str(), attrs),
-        Body::Words { .. } => false,
-    }
-}
-
-/// Whether a node of that role is left out of the tree, but not what is below it.
-pub fn is_ignored(id: ObjId, role: Role, node: &Body) -> bool
-    requires { role ≡ role_of (id == root) node.now }
-    ensures { result ≡ ignored (record { id = id; body = node.now }) }
-{
-    id.number() != 1 && is_ignored_body(role, node)
-}
-
-fn is_ignored_body(role: Role, node: &Body) -> bool
-    ensures { result ≡ ignored_body role node.now }
-{
-    match node {
-        Body::Element { attrs, .. } => ax_roles::is_ignored(role, attrs),
-        Body::Words { chars, .. } => chars.is_blank(),
     }
 }

@@ -4,7 +4,6 @@
 mod content;
 mod focus;
 mod frames;
-mod names;
 #[cfg(test)]
 mod tests;
 mod walk;

@@ -9,18 +9,20 @@ ghost use Rattle.ax_base.specs.Context.{is_out, is_shut, live_at};
 ghost use Rattle.ax_base.specs.Kids.{kids, taken, objects};
 ghost use Rattle.ax_dom.specs.Slots.{cell_of};
 ghost use Rattle.ax_record.specs.Records.{tree, holder};
+ghost use Rattle.ax_names.specs.Sessions.{AreNamesOf};
 ghost use Rattle.ax_fresh.specs.Gathering.{with_records, put_order, AreKidsOf};
 
-use crate::content::{hides, is_ignored, live_by, record_of, role_of};
+use crate::content::{live_by, record_of};
 use crate::focus::focused_object;
 use ax_base::{Ids, Live, NoMemory, ObjId, Role, Steps};
 use ax_dom::{Cell, Dom};
+use ax_names::Names;
 use ax_record::{FreshTree, RecordMap};
-use ax_roles::prunes;
+use ax_roles::{node_hides, node_is_ignored, node_role, prunes};
 use std::alloc::Global;
 use std::sync::ledger::Ledger;
 
-/// The tree of a document. It takes one walk, in which the content of each node is read once.
+/// The tree of a document. It takes one walk that makes the records, after one that indexes the ids.
 pub fn build<L: Ledger>(
     alloc: Global,
     dom: &Dom,
@@ -28,28 +30,33 @@ pub fn build<L: Ledger>(
 ) -> Result<FreshTree, NoMemory>
     ensures { IfOk result (λ t. t ≡ tree dom.now) }
 {
+    let mut names = Names::new(alloc, dom, steps)?;
     let mut records = RecordMap::new(alloc);
-    put_root(alloc, dom, &mut records, steps)?;
+    put_root(alloc, dom, &mut names, &mut records, steps)?;
     let focus = focused_object(dom, &records, steps);
-    Ok(FreshTree::new(records, focus))
+    let tree = FreshTree::new(records, focus);
+    Ok(tree)
 }
 
 /// Puts in the records of all objects below the root, and then that of the root.
 fn put_root<L: Ledger>(
     alloc: Global,
     dom: &Dom,
+    names: &mut Names,
     records: &mut RecordMap,
     steps: &mut Steps<L>,
 ) -> Result<(), NoMemory>
+    requires names { AreNamesOf dom.now names.old }
     ensures tree { IsTree dom.now }
     ensures records { OnOk result (records.new ≡ with_records dom.now records.old (put_order dom.now root)) }
+    ensures names { OnOk result (AreNamesOf dom.now names.new) }
 {
     let Some(cell) = dom.cell(ObjId(1), steps) else {
         return Ok(());
     };
-    let role = role_of(cell.id, &cell.body);
+    let role = node_role(cell.id, &cell.body);
     let live = live_by(role, &cell.body).unwrap_or(Live::Off);
-    put_object(alloc, dom, cell, role, live, None, records, steps)
+    put_object(alloc, dom, cell, role, live, None, names, records, steps)
 }
 
 /// Puts in the records of all objects below an object, and then that of the object.
@@ -61,6 +68,7 @@ fn put_object<L: Ledger>(
     role: Role,
     live: Live,
     parent: Option<ObjId>,
+    names: &mut Names,
     records: &mut RecordMap,
     steps: &mut Steps<L>,
 ) -> Result<(), NoMemory>
@@ -71,13 +79,15 @@ fn put_object<L: Ledger>(
     requires visible { is_out dom.now cell.now.id ≡ false }
     requires live { live ≡ live_at dom.now cell.now.id }
     requires parent { parent ≡ holder dom.now cell.now.id }
-    ensures { OnOk result (records.new ≡ with_records dom.now records.old (put_order dom.now cell.now.id)) }
+    requires names { AreNamesOf dom.now names.old }
+    ensures records { OnOk result (records.new ≡ with_records dom.now records.old (put_order dom.now cell.now.id)) }
+    ensures names { OnOk result (AreNamesOf dom.now names.new) }
 {
     let id = cell.id;
     let shut = prunes(role);
     let mut below = Ids::new(alloc);
-    gather_inside(alloc, dom, id, shut, live, id, &mut below, records, steps)?;
-    let object = record_of(alloc, dom, cell, role, live, parent, below, steps)?;
+    gather_inside(alloc, dom, id, shut, live, id, &mut below, names, records, steps)?;
+    let object = record_of(alloc, dom, names, cell, role, live, parent, below, steps)?;
     records.put(object)
 }
 
@@ -92,6 +102,7 @@ fn gather_inside<L: Ledger>(
     live: Live,
     above: ObjId,
     found: &mut Ids,
+    names: &mut Names,
     records: &mut RecordMap,
     steps: &mut Steps<L>,
 ) -> Result<(), NoMemory>
@@ -100,13 +111,15 @@ fn gather_inside<L: Ledger>(
     requires shut { shut ≡ is_shut dom.now node }
     requires live { live ≡ live_at dom.now node }
     requires hung { AreKidsOf dom.now above (kids dom.now node) }
+    requires names { AreNamesOf dom.now names.old }
     ensures kids { OnOk result (found.new ≡ found.old ++ kids dom.now node) }
     ensures records { OnOk result (records.new ≡ with_records dom.now records.old (flat_map (put_order dom.now) (kids dom.now node))) }
+    ensures names { OnOk result (AreNamesOf dom.now names.new) }
 {
     if shut {
         return Ok(());
     }
-    gather(alloc, dom, node, live, above, found, records, steps)
+    gather(alloc, dom, node, live, above, found, names, records, steps)
 }
 
 /// Adds the kids of a node to a list, and puts in the records of all objects at or below them. They hang on `above`.
@@ -118,6 +131,7 @@ fn gather<L: Ledger>(
     live: Live,
     above: ObjId,
     found: &mut Ids,
+    names: &mut Names,
     records: &mut RecordMap,
     steps: &mut Steps<L>,
 ) -> Result<(), NoMemory>
@@ -125,11 +139,13 @@ fn gather<L: Ledger>(
     requires visible { is_shut dom.now node ≡ false }
     requires live { live ≡ live_at dom.now node }
     requires hung { AreKidsOf dom.now above (kids dom.now node) }
+    requires names { AreNamesOf dom.now names.old }
     ensures kids { OnOk result (found.new ≡ found.old ++ kids dom.now node) }
     ensures records { OnOk result (records.new ≡ with_records dom.now records.old (flat_map (put_order dom.now) (kids dom.now node))) }
+    ensures names { OnOk result (AreNamesOf dom.now names.new) }
 {
     for child in dom.children(node, steps) {
-        gather_child(alloc, dom, *child, live, above, found, records, steps)?;
+        gather_child(alloc, dom, *child, live, above, found, names, records, steps)?;
     }
     Ok(())
 }
@@ -144,6 +160,7 @@ fn gather_child<L: Ledger>(
     around: Live,
     above: ObjId,
     found: &mut Ids,
+    names: &mut Names,
     records: &mut RecordMap,
     steps: &mut Steps<L>,
 ) -> Result<(), NoMemory>
@@ -151,21 +168,23 @@ fn gather_child<L: Ledger>(
     requires visible { is_out dom.now child ≡ hides (spot dom.now child) }
     requires around { live_at dom.now child ≡ unwrap_or (sets_live (spot dom.now child)) around }
     requires hung { AreKidsOf dom.now above (taken dom.now child) }
+    requires names { AreNamesOf dom.now names.old }
     ensures kids { OnOk result (found.new ≡ found.old ++ taken dom.now child) }
     ensures records { OnOk result (records.new ≡ with_records dom.now records.old (flat_map (put_order dom.now) (taken dom.now child))) }
+    ensures names { OnOk result (AreNamesOf dom.now names.new) }
 {
     let Some(cell) = dom.cell(child, steps) else {
         return Ok(());
     };
-    if hides(child, &cell.body) {
+    if node_hides(child, &cell.body) {
         return Ok(());
     }
-    let role = role_of(child, &cell.body);
+    let role = node_role(child, &cell.body);
     let live = live_by(role, &cell.body).unwrap_or(around);
-    if is_ignored(child, role, &cell.body) {
+    if node_is_ignored(child, role, &cell.body) {
         let shut = prunes(role);
-        return gather_inside(alloc, dom, child, shut, live, above, found, records, steps);
+        return gather_inside(alloc, dom, child, shut, live, above, found, names, records, steps);
     }
-    put_object(alloc, dom, cell, role, live, Some(above), records, steps)?;
+    put_object(alloc, dom, cell, role, live, Some(above), names, records, steps)?;
     found.push(child)
 }

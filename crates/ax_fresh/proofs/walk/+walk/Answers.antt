@@ -19,7 +19,7 @@ gather-gather_child-requires g t c κs within =
     let child : IsChild d c.args.node c.child-item.result = child_of d c.args.node c.loop-child.child-index _ _ c.children-child-items.ensures.value (omega arith) c.child-item.is in
     let l = c.decreases in
     let m = descends d tree c.args.node c.child-item.result child in
-    (omega arith, (within, (tree.known c.args.node c.child-item.result child, (out_by_itself d tree c.args.node c.child-item.result child c.requires.visible, (live-child d tree c.args.node c.child-item.result child ∙ ap (unwrap_or (sets_live (spot d c.child-item.result))) (sym c.requires.live), hangs d tree c.args.above c.args.node c.child-item.result child c.requires.hung)))))
+    (omega arith, (within, (tree.known c.args.node c.child-item.result child, (out_by_itself d tree c.args.node c.child-item.result child c.requires.visible, (live-child d tree c.args.node c.child-item.result child ∙ ap (unwrap_or (sets_live (spot d c.child-item.result))) (sym c.requires.live), (hangs d tree c.args.above c.args.node c.child-item.result child c.requires.hung, c.loop-child.invariant.2))))))
 
 pub gather-loop-child-preserved : goal.gather-loop-child-preserved
 gather-loop-child-preserved g t c =
@@ -27,6 +27,7 @@ gather-loop-child-preserved g t c =
     let tree = c.children-child-items.ensures.tree in (
       more_kids d tree c.args.node c.loop-child.child-index c.child-item.result _ _ _ c.children-child-items.result.now (omega arith) c.child-item.is c.loop-child.invariant.0 c.in_ok-gather_child.ensures.kids,
       more_records d tree c.args.node c.loop-child.child-index c.child-item.result _ _ _ c.children-child-items.result.now (omega arith) c.child-item.is c.loop-child.invariant.1 c.in_ok-gather_child.ensures.records,
+      c.in_ok-gather_child.ensures.names,
     )
 
 pub gather-returns-clause-kids : goal.gather-returns-clause-kids
@@ -42,12 +43,12 @@ gather_child-gather_inside-requires g t c κs within =
     let d = c.args.dom.now in
     let tree = c.in-Some.ensures.tree in
     let is_body : c.in-Some.cell.now.body ≡ body d c.args.child = ap (λ (x : Cell). x.body) (cell_is d c.args.child c.in-Some.cell.now c.in-Some.ensures.value) in
-    let visible = shown_child d tree c.args.child c.in-Some.cell.now.body c.hides.result is_body c.hides.ensures c.if-hides.false c.requires.visible in
-    let gives : taken d c.args.child ≡ kids d c.args.child = taken_past d tree c.args.child c.in-Some.cell.now.body c.is_ignored.result is_body c.is_ignored.ensures c.if-is_ignored.true visible in
-    let shut = c.prunes-shut.ensures ∙ shut_by_role d tree c.args.child c.role_of-role.result c.in-Some.cell.now.body c.requires.known is_body c.role_of-role.ensures visible in
-    let same = live_is d tree c.args.child c.in-Some.cell.now.body c.role_of-role.result c.unwrap_or-live.result c.args.around is_body c.role_of-role.ensures (c.unwrap_or-live.ensures ∙ ap (λ o. unwrap_or o c.args.around) c.live_by.ensures) c.requires.around in
+    let visible = shown_child d tree c.args.child c.in-Some.cell.now.body c.node_hides.result is_body c.node_hides.ensures c.if-node_hides.false c.requires.visible in
+    let gives : taken d c.args.child ≡ kids d c.args.child = taken_past d tree c.args.child c.in-Some.cell.now.body c.node_is_ignored.result is_body c.node_is_ignored.ensures c.if-node_is_ignored.true visible in
+    let shut = c.prunes-shut.ensures ∙ shut_by_role d tree c.args.child c.node_role-role.result c.in-Some.cell.now.body c.requires.known is_body c.node_role-role.ensures visible in
+    let same = live_is d tree c.args.child c.in-Some.cell.now.body c.node_role-role.result c.unwrap_or-live.result c.args.around is_body c.node_role-role.ensures (c.unwrap_or-live.ensures ∙ ap (λ o. unwrap_or o c.args.around) c.live_by.ensures) c.requires.around in
     let l = c.decreases in
-    (omega arith, (within, (tree, (c.requires.known, (shut, (same, subst (AreKidsOf d c.args.above) gives c.requires.hung))))))
+    (omega arith, (within, (tree, (c.requires.known, (shut, (same, (subst (AreKidsOf d c.args.above) gives c.requires.hung, c.requires.names)))))))
 
 pub gather_child-put_object-requires : goal.gather_child-put_object-requires
 gather_child-put_object-requires g t c κs within =
@@ -57,26 +58,25 @@ gather_child-put_object-requires g t c κs within =
     let l = c.decreases in
     let m : depth d c.in-Some.cell.now.id ≡ depth d c.args.child = ap (λ (x : Cell). depth d x.id) cell in
     let is_body : c.in-Some.cell.now.body ≡ body d c.args.child = ap (λ (x : Cell). x.body) cell in
-    let visible = shown_child d tree c.args.child c.in-Some.cell.now.body c.hides.result is_body c.hides.ensures c.if-hides.false c.requires.visible in
-    let same = live_is d tree c.args.child c.in-Some.cell.now.body c.role_of-role.result c.unwrap_or-live.result c.args.around is_body c.role_of-role.ensures (c.unwrap_or-live.ensures ∙ ap (λ o. unwrap_or o c.args.around) c.live_by.ensures) c.requires.around in (
-      omega arith,
-      (within, (tree, child_object d tree c.args.above c.args.child c.in-Some.cell.now c.role_of-role.result c.is_ignored.result cell c.role_of-role.ensures c.is_ignored.ensures c.if-is_ignored.false visible c.unwrap_or-live.result same c.requires.hung)),
-    )
+    let visible = shown_child d tree c.args.child c.in-Some.cell.now.body c.node_hides.result is_body c.node_hides.ensures c.if-node_hides.false c.requires.visible in
+    let same = live_is d tree c.args.child c.in-Some.cell.now.body c.node_role-role.result c.unwrap_or-live.result c.args.around is_body c.node_role-role.ensures (c.unwrap_or-live.ensures ∙ ap (λ o. unwrap_or o c.args.around) c.live_by.ensures) c.requires.around in
+    let told = child_object d tree c.args.above c.args.child c.in-Some.cell.now c.node_role-role.result c.node_is_ignored.result cell c.node_role-role.ensures c.node_is_ignored.ensures c.if-node_is_ignored.false visible c.unwrap_or-live.result same c.requires.hung in
+    (omega arith, (within, (tree, (told.0, (told.1.0, (told.1.1.0, (told.1.1.1.0, (told.1.1.1.1.0, (told.1.1.1.1.1, c.requires.names)))))))))
 
-pub gather_child-returns-then-hides-clause-kids : goal.gather_child-returns-then-hides-clause-kids
-gather_child-returns-then-hides-clause-kids g t c =
+pub gather_child-returns-then-node_hides-clause-kids : goal.gather_child-returns-then-node_hides-clause-kids
+gather_child-returns-then-node_hides-clause-kids g t c =
     let d = c.args.dom.now in
     let tree = c.in-Some.ensures.tree in
     let is_body : c.in-Some.cell.now.body ≡ body d c.args.child = ap (λ (x : Cell). x.body) (cell_is d c.args.child c.in-Some.cell.now c.in-Some.ensures.value) in
-    let none = taken_hidden d tree c.args.child c.in-Some.cell.now.body c.hides.result is_body c.hides.ensures c.if-hides.true c.requires.visible in
+    let none = taken_hidden d tree c.args.child c.in-Some.cell.now.body c.node_hides.result is_body c.node_hides.ensures c.if-node_hides.true c.requires.visible in
     sym (ap (λ ks. c.args.found.now ++ ks) none ∙ append-nil c.args.found.now)
 
-pub gather_child-returns-then-hides-clause-records : goal.gather_child-returns-then-hides-clause-records
-gather_child-returns-then-hides-clause-records g t c =
+pub gather_child-returns-then-node_hides-clause-records : goal.gather_child-returns-then-node_hides-clause-records
+gather_child-returns-then-node_hides-clause-records g t c =
     let d = c.args.dom.now in
     let tree = c.in-Some.ensures.tree in
     let is_body : c.in-Some.cell.now.body ≡ body d c.args.child = ap (λ (x : Cell). x.body) (cell_is d c.args.child c.in-Some.cell.now c.in-Some.ensures.value) in
-    let none = taken_hidden d tree c.args.child c.in-Some.cell.now.body c.hides.result is_body c.hides.ensures c.if-hides.true c.requires.visible in
+    let none = taken_hidden d tree c.args.child c.in-Some.cell.now.body c.node_hides.result is_body c.node_hides.ensures c.if-node_hides.true c.requires.visible in
     sym (ap (λ ks. with_records d c.args.records.now (flat_map (put_order d) ks)) none)
 
 pub gather_inside-returns-then-shut-clause-kids : goal.gather_inside-returns-then-shut-clause-kids
@@ -97,8 +97,8 @@ put_object-gather_inside-requires g t c κs within =
     let id = c.args.cell.now.id in
     let there : has d id ≡ true = objects_known d c.requires.tree id c.requires.object in
     let l = c.decreases in
-    (omega arith, (within, (c.requires.tree, (there, (c.prunes-shut.ensures ∙ shut_by_role d c.requires.tree id c.args.role c.args.cell.now.body there (ap (λ (x : Cell). x.body) c.requires.cell) c.requires.role c.requires.visible, (c.requires.live, (c.requires.object, λ k inside. inside)))))))
+    (omega arith, (within, (c.requires.tree, (there, (c.prunes-shut.ensures ∙ shut_by_role d c.requires.tree id c.args.role c.args.cell.now.body there (ap (λ (x : Cell). x.body) c.requires.cell) c.requires.role c.requires.visible, (c.requires.live, ((c.requires.object, λ k inside. inside), c.requires.names)))))))
 
-pub put_object-returns : goal.put_object-returns
-put_object-returns g t c =
-    on_ok_weaker c.put.result (λ put. put_last c.args.dom.now c.requires.tree c.args.cell.now.id _ _ _ _ c.in_ok-gather_inside.ensures.records put c.in_ok-object.ensures) c.put.ensures.ok
+pub put_object-returns-clause-records : goal.put_object-returns-clause-records
+put_object-returns-clause-records g t c =
+    on_ok_weaker c.put.result (λ put. put_last c.args.dom.now c.requires.tree c.args.cell.now.id _ _ _ _ c.in_ok-gather_inside.ensures.records put c.in_ok-object.ensures.value) c.put.ensures.ok

@@ -12,8 +12,8 @@ focused_object-focus-requires-clause-records g c =
     let d = c.args.dom.now in
     all_records d c.put_root.ensures.tree c.put_root.new.records (c.in_ok-put_root.ensures.records ∙ ap (λ es. with_records d es (put_order d root)) c.new-records.ensures)
 
-pub new-requires : goal.new-requires
-new-requires g c =
+pub new-tree-requires : goal.new-tree-requires
+new-tree-requires g c =
     let d = c.args.dom.now in
     let all = all_records d c.put_root.ensures.tree c.put_root.new.records (c.in_ok-put_root.ensures.records ∙ ap (λ es. with_records d es (put_order d root)) c.new-records.ensures) in
     let same : record { entries = c.put_root.new.records; focus = c.focused_object-focus.result } ≡ tree d = λ i. record { entries = all i; focus = c.focused_object-focus.ensures i } in
@@ -24,4 +24,4 @@ returns g c =
     let d = c.args.dom.now in
     let all = all_records d c.put_root.ensures.tree c.put_root.new.records (c.in_ok-put_root.ensures.records ∙ ap (λ es. with_records d es (put_order d root)) c.new-records.ensures) in
     let same : record { entries = c.put_root.new.records; focus = c.focused_object-focus.result } ≡ tree d = λ i. record { entries = all i; focus = c.focused_object-focus.ensures i } in
-    c.new.ensures ∙ same
+    c.new-tree.ensures ∙ same

@@ -38,6 +38,6 @@ put_object-requires-clause-live g c =
     let cell = cell_is d root c.in-Some.cell.now c.in-Some.ensures.value in
     let id_is : c.in-Some.cell.now.id ≡ root = ap (λ (x : Cell). x.id) cell in
     let is_body : c.in-Some.cell.now.body ≡ body d root = ap (λ (x : Cell). x.body) cell in
-    let is_role = c.role_of-role.ensures ∙ ap (λ n. role_of (n == root) c.in-Some.cell.now.body) id_is in
-    live_is d t root c.in-Some.cell.now.body c.role_of-role.result c.unwrap_or-live.result Off is_body is_role (c.unwrap_or-live.ensures ∙ ap (λ o. unwrap_or o Off) c.live_by.ensures) (live-root d t)
+    let is_role = c.node_role-role.ensures ∙ ap (λ n. role_of (n == root) c.in-Some.cell.now.body) id_is in
+    live_is d t root c.in-Some.cell.now.body c.node_role-role.result c.unwrap_or-live.result Off is_body is_role (c.unwrap_or-live.ensures ∙ ap (λ o. unwrap_or o Off) c.live_by.ensures) (live-root d t)
     ∙ ap (live_at d) (sym id_is)
