@@ -111,8 +111,8 @@ refused("an object 0", [START, '{"ask":{"q":"role","id":0}}'], 2, "BadLine")
 
 
 def played(title, story):
-    """A story without requests that is built for a replay alone."""
-    case(title, "dump", story, (0, "NotBuilt"))
+    """A story without requests, whose tree is the root alone."""
+    case(title, "dump", story, ALONE)
     case(title, "replay", story, "end 0\n")
 
 

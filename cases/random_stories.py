@@ -4,8 +4,9 @@
     cases/random_stories.py PROGRAM [SEED [COUNT]]
 
 PROGRAM is an axcore program. The model below is written from docs/STORY_FORMAT.md alone, and shares nothing with the
-proved sources; so a definition there that says something else than the format shows here. It ends with status 1 at the
-first story that the two answer otherwise, and prints it. Limits that take long stories are left to cases/limits.py.
+proved sources; so a definition there that says something else than the format shows here. Its documents are regions,
+buttons and texts, with labels at most, and no element stands below a button. It ends with status 1 at the first story
+that the two answer otherwise, and prints it. Limits that take long stories are left to cases/limits.py.
 """
 import json
 import random
@@ -13,8 +14,8 @@ import subprocess
 import sys
 
 WHITE = " \t\n\f\r"
-BUILT_TAGS = ("main", "article", "button")
-BUILT_REQUESTS = ("root", "focus", "role", "name", "parent", "children")
+TAGS = ("main", "article", "button")
+BUILT_REQUESTS = ("root", "focus", "role", "name", "description", "parent", "children")
 NODE_KEYS = ("remove", "set", "unset", "runs", "frame", "move")
 
 
@@ -178,6 +179,7 @@ class Tree:
         return {
             "role": "role " + role,
             "name": "name " + quoted(name),
+            "description": 'description ""',
             "parent": "parent %d" % parent if parent else "none",
             "children": " ".join(["children", str(len(kids))] + [str(kid) for kid in shown]),
         }[request["q"]]
@@ -246,20 +248,7 @@ class Story:
             taken = max(taken, moment)
         return any(line.get("until", 0) > taken for line in self.page)
 
-    def edits(self):
-        return self.base + [line for line in self.page if "flush" not in line and "until" not in line]
-
     def is_built(self):
-        document = Document()
-        for edit in self.edits():
-            is_element = "tag" in edit or "move" in edit and not document.nodes[edit["move"]].is_text()
-            if is_element and is_below_a_button(document, edit["into"]):
-                return False
-            if "tag" in edit and (edit["tag"] not in BUILT_TAGS or set(edit.get("attrs", {})) - {"aria-label"}):
-                return False
-            if "set" in edit and edit["name"] != "aria-label":
-                return False
-            document.apply(edit)
         requests = [line.get("ask") or line.get("again") or {"q": "root"} for line in self.client]
         return all(request["q"] in BUILT_REQUESTS for request in requests) and not any("notices" in line for line in self.client)
 
@@ -294,7 +283,9 @@ class Story:
         return told
 
 
-def is_below_a_button(document, id):
+def puts_an_element_below_a_button(document, edit):
+    is_element = "tag" in edit or "move" in edit and not document.nodes[edit["move"]].is_text()
+    id = edit["into"] if is_element else None
     while id is not None:
         if document.nodes[id].tag == "button":
             return True
@@ -340,13 +331,13 @@ class Maker:
             ("element", "text", "remove", "move", "set", "unset", "chars", "frame", "runs", "focus"),
             (30, 15, 7, 15, 10, 5, 6, 3, 3, 6))[0]
         place = {"into": self.id(), **({"before": self.id()} if self.chance(0.2) else {})}
-        label = {"attrs": {self.one_of(*["aria-label"] * 20, "id"): self.text()}} if self.chance(0.3) else {}
+        label = {"attrs": {"aria-label": self.text()}} if self.chance(0.3) else {}
         return {
-            "element": {"insert": self.id(), **place, "tag": self.one_of(*["main", "article", "button"] * 9, "div"), **label},
+            "element": {"insert": self.id(), **place, "tag": self.one_of(*TAGS), **label},
             "text": {"insert": self.id(), **place, "text": self.text()},
             "remove": {"remove": self.id()},
             "move": {"move": self.id(), **place},
-            "set": {"set": self.id(), "name": self.one_of(*["aria-label"] * 30, "title"), "value": self.text()},
+            "set": {"set": self.id(), "name": "aria-label", "value": self.text()},
             "unset": {"unset": self.id(), "name": self.one_of("aria-label", "title")},
             "chars": {"text": self.id(), "to": self.text()},
             "frame": {"frame": self.id(), "rect": [0, 0, 1, 1]},
@@ -358,15 +349,18 @@ class Maker:
         """Mostly an edit that the document takes, and does it then."""
         for _ in range(12):
             edit = self.edit()
-            if document.cause(edit) is None:
+            cause = document.cause(edit)
+            if cause is None and not puts_an_element_below_a_button(document, edit):
                 document.apply(edit)
                 return edit
-            if self.chance(0.004):
+            if cause is not None and self.chance(0.004):
                 return edit
         return {"focus": 0}
 
     def request(self):
-        word = self.one_of(*BUILT_REQUESTS * 9, "children", "description")
+        if self.chance(0.01):
+            return self.one_of({"q": "next_char", "at": [1, 0]}, {"q": "hit", "x": 0, "y": 0})
+        word = self.one_of(*BUILT_REQUESTS, "children")
         subject = {} if word in ("root", "focus") else {"id": self.id()}
         return {"q": word, **subject, **({"from": self.random.randrange(3)} if word == "children" and self.chance(0.3) else {})}
 

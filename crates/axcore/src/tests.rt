@@ -111,6 +111,11 @@ fn dump_writes_the_last_tree(rt: HostRuntime) -> Result<(), Fail> {
             "{\"insert\":7,\"into\":1,\"tag\":\"main\"}\n \n{\"insert\":3,\"into\":7,\"tag\":\"article\",\"attrs\":{}}\n{\"insert\":5,\"into\":3,\"tag\":\"button\",\"attrs\":{\"aria-label\":\"  a\\t b \\\"\\u0001\"}}\n{\"start\":1}\n{\"insert\":4,\"into\":7,\"tag\":\"button\",\"attrs\":{\"aria-label\":\" \"}}\n",
             "1 0 document \"\"\n7 1 main \"\"\n3 7 article \"\"\n5 3 button \"a b \\\"\\u0001\"\n4 7 button \"\"\nend 1\n",
         ),
+        done(
+            "dump",
+            "{\"insert\":2,\"into\":1,\"tag\":\"div\"}\n{\"insert\":3,\"into\":2,\"tag\":\"button\"}\n{\"insert\":4,\"into\":3,\"tag\":\"main\"}\n{\"start\":1}\n{\"ask\":{\"q\":\"description\",\"id\":3}}\n",
+            "1 0 document \"\"\n3 1 button \"\"\nend 0\n",
+        ),
         no_command(""),
         no_command("dump x"),
         no_command("Dump"),
@@ -141,8 +146,8 @@ fn replay_tells_what_the_client_heard(rt: HostRuntime) -> Result<(), Fail> {
         ),
         done(
             "replay",
-            "{\"insert\":2,\"into\":1,\"tag\":\"ul\",\"attrs\":{\"role\":\"none\"}}\n{\"insert\":3,\"into\":2,\"tag\":\"li\"}\n{\"insert\":4,\"into\":1,\"tag\":\"div\",\"attrs\":{\"role\":\"status\"}}\n{\"insert\":5,\"into\":4,\"tag\":\"h3\"}\n{\"insert\":6,\"into\":1,\"tag\":\"input\",\"attrs\":{\"type\":\"checkbox\",\"checked\":\"\",\"disabled\":\"\"}}\n{\"start\":1}\n{\"ask\":{\"q\":\"children\",\"id\":1}}\n{\"ask\":{\"q\":\"live\",\"id\":5}}\n{\"ask\":{\"q\":\"level\",\"id\":5}}\n{\"ask\":{\"q\":\"states\",\"id\":6}}\n{\"ask\":{\"q\":\"role\",\"id\":2}}\n",
-            "#1 @0 children 3 3 4 6\n#2 @0 live polite\n#3 @0 level 3\n#4 @0 states disabled checked=true\n#5 @0 stale\nend 0\n",
+            "{\"insert\":2,\"into\":1,\"tag\":\"ul\",\"attrs\":{\"role\":\"none\"}}\n{\"insert\":3,\"into\":2,\"tag\":\"li\"}\n{\"insert\":4,\"into\":1,\"tag\":\"div\",\"attrs\":{\"role\":\"status\"}}\n{\"insert\":5,\"into\":4,\"tag\":\"h3\"}\n{\"insert\":6,\"into\":1,\"tag\":\"input\",\"attrs\":{\"type\":\"checkbox\",\"checked\":\"\",\"disabled\":\"\"}}\n{\"start\":1}\n{\"ask\":{\"q\":\"children\",\"id\":1}}\n{\"ask\":{\"q\":\"live\",\"id\":5}}\n{\"ask\":{\"q\":\"level\",\"id\":5}}\n{\"ask\":{\"q\":\"states\",\"id\":6}}\n{\"ask\":{\"q\":\"role\",\"id\":2}}\n{\"ask\":{\"q\":\"description\",\"id\":4}}\n",
+            "#1 @0 children 3 3 4 6\n#2 @0 live polite\n#3 @0 level 3\n#4 @0 states disabled checked=true\n#5 @0 stale\n#6 @0 description \"\"\nend 0\n",
         ),
     ];
     for case in &cases {
@@ -173,12 +178,7 @@ fn what_is_refused_says_where_and_why(rt: HostRuntime) -> Result<(), Fail> {
         ),
         refused(
             "dump",
-            "{\"insert\":2,\"into\":1,\"tag\":\"div\"}\n{\"start\":1}\n",
-            "refused 0 NotBuilt\n",
-        ),
-        refused(
-            "dump",
-            "{\"insert\":2,\"into\":1,\"tag\":\"button\"}\n{\"insert\":3,\"into\":2,\"tag\":\"main\"}\n{\"start\":1}\n",
+            "{\"start\":1}\n{\"again\":{\"q\":\"hit\",\"x\":0,\"y\":0}}\n",
             "refused 0 NotBuilt\n",
         ),
         refused(
