@@ -1,28 +1,12 @@
 -- Bounds of the edges of rectangles.
-use Rattle.std.proofs.Common.{◌≡◌, ◌∙◌, ℤ, ◌≤ℤ◌, ◌+ℤ◌, ◌-ℤ◌, List, [], ◌∷◌, map, Bool, true, false, cond, arith}
-use Rattle.std.specs.Prelude.{int_lt, All, fold}
+use Rattle.std.proofs.Common.{◌≡◌, ◌∙◌, ℤ, ◌+ℤ◌, ◌-ℤ◌, List, [], ◌∷◌, map, arith}
+use Rattle.std.specs.Prelude.{All, fold}
 use Rattle.std.proofs.lemmas.Int.{ints, clamps}
 use Rattle.std.proofs.lemmas.List.Elements.{All-head, All-tail, All-map}
 use Rattle.ax_base.specs.declared.rect.Rect.{Rect}
 use Rattle.ax_base.specs.declared.rect.Run.{Run}
 use Rattle.ax_base.specs.Rects.{IsWithinBounds, AreRunsWithin, IsSideWithin, between, unite, united, frame_of_runs}
 use Rattle.std.specs.Int.{int_min, int_max}
-
--- the lesser of two is not below what neither is below
-pub min_low : (k a b : ℤ) → k ≤ℤ a → k ≤ℤ b → k ≤ℤ int_min a b
-min_low k a b one two = go (int_lt b a)
-  where
-    go : (x : Bool) → k ≤ℤ cond x b a
-    go true = two
-    go false = one
-
--- the greater of two is not above what neither is above
-pub max_high : (k a b : ℤ) → a ≤ℤ k → b ≤ℤ k → int_max a b ≤ℤ k
-max_high k a b one two = go (int_lt b a)
-  where
-    go : (x : Bool) → cond x a b ≤ℤ k
-    go true = one
-    go false = two
 
 pub made : (l t r b x y w h : ℤ) → x ≡ l → y ≡ t → w ≡ (r -ℤ l) → h ≡ (b -ℤ t) → ◌≡◌ {A = Rect} (record { x = x; y = y; w = w; h = h }) (between l t r b)
 made l t r b x y w h ex ey ew eh = λ i. record { x = ex i; y = ey i; w = ew i; h = eh i }
