@@ -14,7 +14,7 @@ pub mod Reached
 pub mod KidsLaws
 pub mod Objects
 pub mod Written
-mod Rectangles
+pub mod Rectangles
 pub mod SaidLaws
 mod Tables
 mod Rows

@@ -13,21 +13,25 @@ use Rattle.std.proofs.lemmas.Bool.{eqb-true, false≢true}
 use Rattle.std.proofs.lemmas.Option.{none-some}
 use Rattle.std.proofs.lemmas.Map.Keys.{IsStrictlyIncreasing-from_sorted, sorted_from_strictly_increasing}
 use Rattle.std.proofs.lemmas.Map.Views.{Contains-from_any, list_any-from_Contains}
+use Rattle.std.proofs.lemmas.List.Elements.{All-nil}
 use Rattle.std.proofs.lemmas.List.Kept.{IsStrictlySortedBy-filter}
 use Rattle.ax_base.specs.declared.body.Body.{Body}
 use Rattle.ax_base.specs.declared.body.Body.TheVariants.{Element, Words}
+use Rattle.ax_base.specs.declared.rect.Run.{Run}
 use Rattle.ax_base.specs.Document.{Document, ids, root, body, lineage}
 use Rattle.ax_base.specs.Trees.{IsTree, HasNoRepeats}
+use Rattle.ax_base.specs.Rects.{IsWithinBounds, AreRunsWithin, HasRectsWithin}
 use Rattle.ax_base.specs.Texts.{IsFitting}
 use Rattle.ax_base.specs.Kids.{kids, objects}
 use Rattle.ax_base.proofs.Places.{find_none}
 use Rattle.ax_base.proofs.Lookups.{finds, found_is}
 use Rattle.ax_base.proofs.KidsLaws.{kids_deeper}
+use Rattle.ax_base.proofs.Rectangles.{frame_of_runs_within}
 use Rattle.ax_base.proofs.Objects.{find_one, kids_are_objects, kids_once, one_holder, root_is_object, objects_known, objects_shown, objects_hung}
 use Rattle.ax_record.specs.declared.record.Record.{Record}
 use Rattle.ax_record.specs.Tree.{record_at, has_object, kids_of, parent_of, IsKid}
-use Rattle.ax_record.specs.ObjectTrees.{IsObjectTree, HasFittingText}
-use Rattle.ax_record.specs.Records.{record_of, holder, is_object, tree, chars_of, runs_of}
+use Rattle.ax_record.specs.ObjectTrees.{IsObjectTree, HasFittingText, KeepsBounds}
+use Rattle.ax_record.specs.Records.{record_of, holder, is_object, tree, frame_of, chars_of, runs_of}
 
 -- what is found among entries that are made of their keys
 pub lookup-made : {X : Type 0} (f : ℕ → X) (n : ℕ) (ks : List ℕ) → lookup (is_at (nat_cmp n)) (map (λ k. (k, f k)) ks) ≡ cond (list_any (finds n) ks) (Some (f n)) None
@@ -82,6 +86,10 @@ find_passes p (x ∷ xs) = go (p x) refl (find_passes p xs)
 fits : (r : Record) (b : Body) → IsFitting b → r.text ≡ chars_of b → r.runs ≡ runs_of b → HasFittingText r
 fits r (Words text runs) short is_text is_runs = subst (λ o. MatchOption o (r.runs ≡ []) (λ chars_in. length (chars chars_in) ≤ 65536)) (sym is_text) short
 fits r (Element tag attrs frame) short is_text is_runs = subst (λ o. MatchOption o (r.runs ≡ []) (λ chars_in. length (chars chars_in) ≤ 65536)) (sym is_text) is_runs
+
+bounded : (b : Body) → HasRectsWithin b → IsWithinBounds (frame_of b) × AreRunsWithin (runs_of b)
+bounded (Words text runs) within = (frame_of_runs_within runs within, within)
+bounded (Element tag attrs frame) within = (within, All-nil (λ (r : Run). IsWithinBounds r.rect))
 
 module _ (d : Document) (t : IsTree d) where
   pub object_is : (n : ℕ) → is_object d n ≡ true → Contains (objects d) n
@@ -182,6 +190,7 @@ module _ (d : Document) (t : IsTree d) where
     hung = λ n there top. elim (objects_hung d t n (object_is n (sym (has_is n) ∙ there))) [ inl is ↦ absurd (top (sym is)) | inr (p, one, kid) ↦ (p, kid_of p n one kid) ];
     focused = focus_held d.focus;
     texts = λ n r found. subst HasFittingText (record_found n r found) (fits (record_of d n) (body d n) (t.fits n) refl refl);
+    within = λ n r found. subst KeepsBounds (record_found n r found) (bounded (body d n) (t.within n));
   }
     where
       once_each : (n : ℕ) (b : Bool) → HasNoRepeats (cond b (kids d n) [])
