@@ -1,11 +1,14 @@
 -- The first token of a text.
-use Rattle.std.proofs.Common.{◌≡◌, ℕ, zero, suc, ◌+◌, ◌<◌, ◌≤◌, List, [], ◌∷◌, ◌++◌, length, take, drop, Bool, true, false, cond, not, refl, sym, ap, subst, ◌∙◌, arith, append_assoc, append-nil, length-drop}
-use Rattle.std.specs.Prelude.{◌==◌, Some, None, nat_lt, unwrap_or}
+use Rattle.std.proofs.Common.{◌≡◌, ℕ, zero, suc, ◌+◌, ◌<◌, ◌≤◌, List, [], ◌∷◌, ◌++◌, length, take, drop, Bool, true, false, cond, not, refl, sym, ap, subst, ◌∙◌, arith, append_assoc, append-nil, length-drop, get_or}
+use Rattle.std.specs.Prelude.{◌==◌, Option, Some, None, nat_lt, unwrap_or}
+use Rattle.std.specs.Str.{IsCharBoundary}
+use Rattle.std.proofs.lemmas.Bool.{true≢false}
+use Rattle.std.proofs.lemmas.List.Quantifiers.{position-Some}
 use Rattle.std.specs.List.{prefix_len, position}
 use Rattle.std.proofs.lemmas.Bool.Decides.{nat_tests}
 use Rattle.ax_base.specs.Characters.{Chars, is_white, tokens, tokens_after}
 use Rattle.ax_base.specs.Values.{without_front}
-use Rattle.ax_base.proofs.Flattening.{word_byte}
+use Rattle.ax_base.proofs.Flattening.{not_white, word_byte}
 
 -- whether a byte is no white space
 abbrev pub is_ink : ℕ → Bool
@@ -29,6 +32,20 @@ piece_is t = go (nat_lt (prefix_len is_ink t) (length t)) refl
 
 pub piece_short : (t : Chars) → unwrap_or (position is_white t) (length t) ≤ length t
 piece_short t = let short = ink_short t in let same = piece_is t in omega arith
+
+-- the first white space stands at the start of a character
+pub piece_boundary : (t : Chars) → IsCharBoundary t (unwrap_or (position is_white t) (length t))
+piece_boundary t = go (position is_white t) refl
+  where
+    go : (o : Option ℕ) → position is_white t ≡ o → IsCharBoundary t (unwrap_or o (length t))
+    go None e = (omega arith, λ low far. absurd (omega arith))
+    go (Some i) e =
+        let at = position-Some is_white t i 0 e in
+        let within : i < length t = at.0 in
+        (omega arith, λ low far. let ink : is_white (get_or t i 0) ≡ false = not_white (get_or t i 0) (omega arith) in absurd (true≢false (sym at.1 ∙ ink)))
+
+pub len_of : (k : ℕ) (t u : Chars) → k ≡ unwrap_or (position is_white u) (length u) → u ≡ t → k ≡ unwrap_or (position is_white t) (length t)
+len_of k t u is same = is ∙ ap (λ v. unwrap_or (position is_white v) (length v)) same
 
 pub some_left : (n : ℕ) (b : Bool) → b ≡ (n == 0) → b ≡ false → 0 < n
 some_left n b told e = let there : (n == 0) ≡ false = sym told ∙ e in grind (arith, nat_tests)

@@ -28,7 +28,7 @@ flattered-push s (x ∷ xs) c = flattered-push (flatter s x) xs c
 is_low : (c : ℕ) → is_white c ≡ true → c < 128
 is_low c white = grind (arith, nat_tests)
 
-not_white : (b : ℕ) → 128 ≤ b → is_white b ≡ false
+pub not_white : (b : ℕ) → 128 ≤ b → is_white b ≡ false
 not_white b high = grind (arith, nat_tests)
 
 -- one more byte of a word

@@ -3,7 +3,7 @@ ghost use Rattle.std.specs.Prelude.{◌≡◌, ◌<◌, ◌∷◌, [], length, p
 ghost use Rattle.ax_base.specs.Characters.{is_white, tokens};
 
 /// The first token of a text, and what comes after it, or `None` where there is none.
-pub fn first_token(text: &[u8]) -> Option<(&[u8], &[u8])>
+pub fn first_token(text: &str) -> Option<(&str, &str)>
     ensures tokens { MatchOption result (tokens text.now ≡ []) (λ p. tokens text.now ≡ p.0.now ∷ tokens p.1.now) }
     ensures less { MatchOption result (tokens text.now ≡ []) (λ p. length p.1.now < length text.now) }
 {
@@ -11,7 +11,8 @@ pub fn first_token(text: &[u8]) -> Option<(&[u8], &[u8])>
     if rest.is_empty() {
         return None;
     }
-    Some(rest.split_at(piece_len(rest)))
+    let len = piece_len(rest.as_bytes());
+    Some(rest.split_at(len))
 }
 
 /// How many bytes stand before the first white space.

@@ -97,16 +97,16 @@ const KNOWN_ROLES: [Role; 81] = [
 pub(crate) fn role_given(attrs: &Attrs) -> Option<Role>
     ensures { result ≡ role_given attrs.now }
 {
-    first_known(attrs.text("role").as_bytes())
+    first_known(attrs.text("role"))
 }
 
 /// The first role that is named among the tokens of a text.
-fn first_known(text: &[u8]) -> Option<Role>
+fn first_known(text: &str) -> Option<Role>
     ensures { result ≡ first_known (tokens text.now) }
 {
     let mut rest = text;
     while let Some((token, after)) = first_token(rest) {
-        let role = known_role(token);
+        let role = known_role(token.as_bytes());
         if role.is_some() {
             return role;
         }
