@@ -7,4 +7,6 @@ pub mod Again
 pub mod Apart
 mod Speaking
 mod Above
+mod Known
 mod Firsts
+mod Whole

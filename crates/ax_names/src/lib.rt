@@ -14,14 +14,15 @@ mod order;
 mod pieces;
 mod plain;
 mod referred;
+mod said;
 mod targets;
 #[cfg(test)]
 mod tests;
 
 pub use hidden::is_hidden;
 pub use pieces::Piece;
-pub use plain::{said_plain, said_whole};
 pub use referred::referred_node;
+pub use said::{said_plain, said_shown, said_whole};
 pub use targets::Targets;
 
 /// What is kept of texts tells what is kept of them put together, and what name they make.

@@ -5,7 +5,7 @@ ghost use Rattle.ax_base.specs.Document.{has, root, children};
 ghost use Rattle.ax_base.specs.Trees.{IsTree};
 ghost use Rattle.ax_base.specs.Characters.{Chars};
 ghost use Rattle.ax_base.specs.Roles.{role_of};
-ghost use Rattle.ax_base.specs.Said.{said0, said_all, child_text, spaced};
+ghost use Rattle.ax_base.specs.Said.{child_text, spaced};
 ghost use Rattle.ax_dom.specs.Slots.{cell_of};
 ghost use Rattle.ax_names.specs.Pieces.{piece_of};
 ghost use Rattle.ax_names.specs.OwnTexts.{element_says, hiding, said_part};
@@ -18,32 +18,6 @@ use ax_base::{Attrs, Body, NoMemory, ObjId, Role, Steps, is_blank};
 use ax_dom::{Cell, Dom};
 use std::alloc::Global;
 use std::sync::ledger::Ledger;
-
-/// What is kept of what a node says, where no reference is followed.
-pub fn said_plain<L: Ledger>(
-    alloc: Global,
-    dom: &Dom,
-    id: ObjId,
-    steps: &mut Steps<L>,
-) -> Result<Piece, NoMemory>
-    requires known { IsTrue (has dom.now id) }
-    ensures { IfOk result (λ p. p ≡ piece_of (said0 dom.now id)) }
-{
-    said_part(alloc, dom, id, false, steps)
-}
-
-/// What is kept of all that a node says, also what hides, where no reference is followed.
-pub fn said_whole<L: Ledger>(
-    alloc: Global,
-    dom: &Dom,
-    id: ObjId,
-    steps: &mut Steps<L>,
-) -> Result<Piece, NoMemory>
-    requires known { IsTrue (has dom.now id) }
-    ensures { IfOk result (λ p. p ≡ piece_of (said_all dom.now id)) }
-{
-    said_part(alloc, dom, id, true, steps)
-}
 
 /// What is kept of what a node says, or of all that it says, where no reference is followed.
 pub fn said_part<L: Ledger>(
@@ -158,7 +132,7 @@ fn plain_child<L: Ledger>(
 }
 
 /// Whether a node hides: where all is said nothing does.
-fn is_silent(whole: bool, id: ObjId, node: &Body) -> bool
+pub fn is_silent(whole: bool, id: ObjId, node: &Body) -> bool
     ensures { result ≡ hiding whole (record { id = id; body = node.now }) }
 {
     !whole && hides(id, node)
