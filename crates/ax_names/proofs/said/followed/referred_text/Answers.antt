@@ -1,4 +1,4 @@
-use Rattle.std.proofs.Common.{sym, ◌∙◌}
+use Rattle.std.proofs.Common.{sym}
 use Rattle.ax_names.proofs.Known.{target_known}
 use Rattle.ax_names.proofs.said.followed.referred_text.Goals as goal
 
