@@ -33,7 +33,7 @@ join_two x (t ∷ ts) (inl none) some = absurd (cc)
 join_two x (t ∷ ts) (inr more) some = λ i. x ++ (cond (not (sym some i) && not (sym more i)) (32 ∷ []) [] ++ join_with_byte 32 (t ∷ ts))
 
 -- the first text, and then the others behind a space
-first_apart : (x : Chars) (ts : List Chars) → joined_by_spaces (x ∷ ts) ≡ x ++ spaced x true (joined_by_spaces ts)
+pub first_apart : (x : Chars) (ts : List Chars) → joined_by_spaces (x ∷ ts) ≡ x ++ spaced x true (joined_by_spaces ts)
 first_apart [] ts = refl
 first_apart (c ∷ cs) ts = ap (λ (l : List Chars). join_with_byte 32 l) (some_of-more c cs ts) ∙ join_two (c ∷ cs) (some_of ts) (none_or_some ts) refl
 

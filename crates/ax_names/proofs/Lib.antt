@@ -12,3 +12,4 @@ mod Referring
 mod Firsts
 mod Showing
 mod Calling
+mod Whole

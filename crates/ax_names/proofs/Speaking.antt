@@ -52,7 +52,7 @@ pub element_is : (r : Role) (tag : Chars) (attrs : List Attr) (frame : Rect) (be
 element_is r tag attrs frame below = by_turns (text_in (codes "aria-label") attrs) (embedded r tag attrs) below (title_said attrs) _ _ refl refl
 
 -- what a node says, or all that it says, is made of what its children say
-said_part-children : (whole : Bool) (d : Document) → IsTree d → (n : ℕ)
+pub said_part-children : (whole : Bool) (d : Document) → IsTree d → (n : ℕ)
     → said_part whole d n ≡ cond (hiding whole (spot d n)) [] (said_by (role (spot d n)) [] (body d n) (flat_map (child_text d (hiding whole) (said_part whole d)) (children d n)))
 said_part-children true d t n = said_all-children d t n
 said_part-children false d t n = said0-children d t n

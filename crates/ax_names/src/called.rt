@@ -180,7 +180,11 @@ fn element_called<L: Ledger>(
         return Ok(Piece::empty(alloc));
     }
     let inside = content(alloc, dom, names, id, steps)?;
-    if inside.is_blank() { Ok(Piece::empty(alloc)) } else { Ok(inside) }
+    if inside.is_blank() {
+        Ok(Piece::empty(alloc))
+    } else {
+        Ok(inside)
+    }
 }
 
 /// What is kept of the label that the host language gives to an element.

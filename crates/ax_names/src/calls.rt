@@ -3,10 +3,10 @@ ghost use Rattle.std.specs.Prelude.{◌≡◌, IfOk, IsTrue};
 ghost use Rattle.ax_base.specs.Document.{has};
 ghost use Rattle.ax_base.specs.AccessibleNames.{name_of, description_of};
 
-use crate::nodes::role_of;
 use crate::session::Names;
 use ax_base::{NoMemory, ObjId, Steps, Text};
 use ax_dom::Dom;
+use ax_roles::node_role;
 use std::alloc::Global;
 use std::sync::ledger::Ledger;
 
@@ -25,7 +25,7 @@ pub fn name_of<L: Ledger>(
         return Ok(Text::new(alloc));
     };
     let mut names = Names::new(alloc, dom, steps)?;
-    names.name_of(alloc, dom, cell, role_of(cell.id, &cell.body), steps)
+    names.name_of(alloc, dom, cell, node_role(cell.id, &cell.body), steps)
 }
 
 /// The accessible description of a node, flattened and cut at 512 characters (AccName 1.2, section 4.2). It indexes the ids of
@@ -43,5 +43,5 @@ pub fn description_of<L: Ledger>(
         return Ok(Text::new(alloc));
     };
     let mut names = Names::new(alloc, dom, steps)?;
-    names.description_of(alloc, dom, cell, role_of(cell.id, &cell.body), steps)
+    names.description_of(alloc, dom, cell, node_role(cell.id, &cell.body), steps)
 }

@@ -5,7 +5,6 @@ ghost use Rattle.ax_base.specs.Trees.{IsTree};
 ghost use Rattle.ax_base.specs.Roles.{hides};
 ghost use Rattle.ax_base.specs.Context.{is_hidden};
 
-use crate::nodes::hides;
 use ax_base::{ObjId, Steps};
 use ax_dom::Dom;
 use std::sync::ledger::Ledger;
@@ -34,5 +33,5 @@ fn node_hides<L: Ledger>(dom: &Dom, id: ObjId, steps: &mut Steps<L>) -> bool
     let Some(cell) = dom.cell(id, steps) else {
         return false;
     };
-    hides(cell.id, &cell.body)
+    ax_roles::node_hides(cell.id, &cell.body)
 }

@@ -5,18 +5,19 @@ ghost use Rattle.std.specs.Prelude.{◌≡◌, ◌++◌, List, map};
 ghost use Rattle.ax_base.specs.Characters.{Chars, is_blank, flat, cut, joined_by_spaces};
 ghost use Rattle.ax_names.specs.Pieces.{is_empty, piece_of, joined, flattened, all_apart, name_of, has_no_words, has_nothing};
 
+mod blocks;
 mod called;
 mod calls;
 mod embedded;
 mod front;
 mod hidden;
 mod memo;
-mod nodes;
 mod order;
 mod pieces;
 mod plain;
 mod referred;
 mod refs;
+mod said;
 mod session;
 mod shown;
 mod targets;
@@ -26,7 +27,7 @@ mod tests;
 pub use calls::{description_of, name_of};
 pub use hidden::is_hidden;
 pub use pieces::Piece;
-pub use plain::{said_plain, said_whole};
+pub use said::{said_plain, said_shown, said_whole};
 pub use session::Names;
 
 /// What is kept of texts tells what is kept of them put together, and what name they make.

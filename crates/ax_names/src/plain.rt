@@ -5,45 +5,20 @@ ghost use Rattle.ax_base.specs.Document.{has, root, children};
 ghost use Rattle.ax_base.specs.Trees.{IsTree};
 ghost use Rattle.ax_base.specs.Characters.{Chars};
 ghost use Rattle.ax_base.specs.Roles.{role_of};
-ghost use Rattle.ax_base.specs.Said.{said0, said_all, child_text, spaced};
+ghost use Rattle.ax_base.specs.Said.{child_text, spaced};
 ghost use Rattle.ax_dom.specs.Slots.{cell_of};
 ghost use Rattle.ax_names.specs.Pieces.{piece_of};
 ghost use Rattle.ax_names.specs.OwnTexts.{element_says, hiding, said_part};
 
+use crate::blocks::is_block;
 use crate::embedded::{own_text, title_said};
-use crate::nodes::{hides, is_block, role_of};
 use crate::pieces::Piece;
 use crate::pieces_tell;
 use ax_base::{Attrs, Body, NoMemory, ObjId, Role, Steps, is_blank};
 use ax_dom::{Cell, Dom};
+use ax_roles::{node_hides, node_role};
 use std::alloc::Global;
 use std::sync::ledger::Ledger;
-
-/// What is kept of what a node says, where no reference is followed.
-pub fn said_plain<L: Ledger>(
-    alloc: Global,
-    dom: &Dom,
-    id: ObjId,
-    steps: &mut Steps<L>,
-) -> Result<Piece, NoMemory>
-    requires known { IsTrue (has dom.now id) }
-    ensures { IfOk result (λ p. p ≡ piece_of (said0 dom.now id)) }
-{
-    said_part(alloc, dom, id, false, steps)
-}
-
-/// What is kept of all that a node says, also what hides, where no reference is followed.
-pub fn said_whole<L: Ledger>(
-    alloc: Global,
-    dom: &Dom,
-    id: ObjId,
-    steps: &mut Steps<L>,
-) -> Result<Piece, NoMemory>
-    requires known { IsTrue (has dom.now id) }
-    ensures { IfOk result (λ p. p ≡ piece_of (said_all dom.now id)) }
-{
-    said_part(alloc, dom, id, true, steps)
-}
 
 /// What is kept of what a node says, or of all that it says, where no reference is followed.
 pub fn said_part<L: Ledger>(
@@ -82,7 +57,7 @@ fn plain_cell<L: Ledger>(
     match &cell.body {
         Body::Words { chars, .. } => Piece::of(alloc, chars.as_str()),
         Body::Element { tag, attrs, .. } => {
-            let role = role_of(cell.id, &cell.body);
+            let role = node_role(cell.id, &cell.body);
             plain_element(alloc, dom, cell.id, role, tag.as_str(), attrs, whole, steps)
         }
     }
@@ -158,10 +133,10 @@ fn plain_child<L: Ledger>(
 }
 
 /// Whether a node hides: where all is said nothing does.
-fn is_silent(whole: bool, id: ObjId, node: &Body) -> bool
+pub fn is_silent(whole: bool, id: ObjId, node: &Body) -> bool
     ensures { result ≡ hiding whole (record { id = id; body = node.now }) }
 {
-    !whole && hides(id, node)
+    !whole && node_hides(id, node)
 }
 
 /// A piece, between two spaces where it stands apart.

@@ -15,7 +15,7 @@ use std::alloc::Global;
 use std::sync::ledger::Ledger;
 
 /// How many tokens of an attribute refer to something.
-const MOST: u8 = 8;
+pub(crate) const MOST: u8 = 8;
 
 /// What is kept of what the first eight tokens of a text refer to, joined by single spaces.
 pub(crate) fn referred_by<L: Ledger>(

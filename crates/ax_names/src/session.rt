@@ -23,11 +23,7 @@ impl Names {
     ghost use Rattle.ax_names.specs.Sessions.{AreNamesOf};
 
     /// Nothing is kept yet of what nodes say, and the ids of the document are indexed, in one walk.
-    pub fn new<L: Ledger>(
-        alloc: Global,
-        dom: &Dom,
-        steps: &mut Steps<L>,
-    ) -> Result<Names, NoMemory>
+    pub fn new<L: Ledger>(alloc: Global, dom: &Dom, steps: &mut Steps<L>) -> Result<Names, NoMemory>
         ensures { IfOk result (λ s. AreNamesOf dom.now s) }
     {
         Ok(Names {

@@ -12,8 +12,8 @@ ghost use Rattle.ax_names.specs.Pieces.{piece_of};
 ghost use Rattle.ax_names.specs.OwnTexts.{element_shows};
 ghost use Rattle.ax_names.specs.Sessions.{AreNamesOf, referred_by};
 
+use crate::blocks::is_block;
 use crate::embedded::{own_text, title_said};
-use crate::nodes::{hides, is_block, role_of};
 use crate::pieces::Piece;
 use crate::pieces_tell;
 use crate::plain::with_spaces;
@@ -21,6 +21,7 @@ use crate::refs::referred_by;
 use crate::session::Names;
 use ax_base::{Attrs, Body, NoMemory, ObjId, Role, Steps, is_blank};
 use ax_dom::{Cell, Dom};
+use ax_roles::{node_hides, node_role};
 use std::alloc::Global;
 use std::sync::ledger::Ledger;
 
@@ -104,7 +105,7 @@ fn shown_child<L: Ledger>(
         return Ok(Piece::empty(alloc));
     };
     let said = shown_cell(alloc, dom, names, cell, steps)?;
-    let apart = is_block(&cell.body) && !hides(cell.id, &cell.body);
+    let apart = is_block(&cell.body) && !node_hides(cell.id, &cell.body);
     with_spaces(alloc, apart, said)
 }
 
@@ -123,13 +124,13 @@ fn shown_cell<L: Ledger>(
     ensures value { IfOk result (λ p. p ≡ piece_of (said1 dom.now cell.now.id)) }
     ensures names { OnOk result (AreNamesOf dom.now names.new) }
 {
-    if hides(cell.id, &cell.body) {
+    if node_hides(cell.id, &cell.body) {
         return Ok(Piece::empty(alloc));
     }
     match &cell.body {
         Body::Words { chars, .. } => Piece::of(alloc, chars.as_str()),
         Body::Element { tag, attrs, .. } => {
-            let role = role_of(cell.id, &cell.body);
+            let role = node_role(cell.id, &cell.body);
             shown_element(alloc, dom, names, cell.id, role, tag.as_str(), attrs, steps)
         }
     }

@@ -36,4 +36,4 @@ plain_cell-returns-in-Words g t c =
 pub plain_cell-returns-in-Element : goal.plain_cell-returns-in-Element
 plain_cell-returns-in-Element g t c =
     let d = c.args.dom.now in
-    IfOk-weaker c.plain_element.result _ _ (λ p e. e ∙ ap piece_of (says_element c.args.whole d c.requires.tree c.args.cell.now.id c.args.cell.now.body (ap (λ (x : Cell). x.body) c.requires.cell) c.is_silent.result c.is_silent.ensures c.if-is_silent.false c.role_of-role.result c.role_of-role.ensures c.in-Element.tag c.in-Element.attrs c.in-Element.frame c.in-Element.is _ c.as_str-in-Element.ensures)) c.plain_element.ensures
+    IfOk-weaker c.plain_element.result _ _ (λ p e. e ∙ ap piece_of (says_element c.args.whole d c.requires.tree c.args.cell.now.id c.args.cell.now.body (ap (λ (x : Cell). x.body) c.requires.cell) c.is_silent.result c.is_silent.ensures c.if-is_silent.false c.node_role-role.result c.node_role-role.ensures c.in-Element.tag c.in-Element.attrs c.in-Element.frame c.in-Element.is _ c.as_str-in-Element.ensures)) c.plain_element.ensures

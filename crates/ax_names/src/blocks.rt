@@ -1,43 +1,9 @@
-//! What a node is by itself.
-ghost use Rattle.std.specs.Prelude.{◌≡◌, ◌==◌, bytes_eq};
+//! Elements that stand in blocks of their own.
+ghost use Rattle.std.specs.Prelude.{◌≡◌, bytes_eq};
 ghost use Rattle.std.specs.List.{list_any};
-ghost use Rattle.ax_base.specs.Document.{root};
-ghost use Rattle.ax_base.specs.Roles.{role_of, hides_body, hides};
 ghost use Rattle.ax_base.specs.Said.{is_block, is_block_element, block_tags};
 
-use ax_base::{Attrs, Body, ObjId, Role};
-
-/// The role of a node.
-pub fn role_of(id: ObjId, node: &Body) -> Role
-    ensures { result ≡ role_of (id == root) node.now }
-{
-    match node {
-        Body::Words { .. } => Role::Text,
-        Body::Element { tag, attrs, .. } => {
-            if id.number() == 1 {
-                Role::Document
-            } else {
-                ax_roles::role_of(tag.as_str(), attrs)
-            }
-        }
-    }
-}
-
-/// Whether a node leaves out itself and what is below it.
-pub fn hides(id: ObjId, node: &Body) -> bool
-    ensures { result ≡ hides (record { id = id; body = node.now }) }
-{
-    id.number() != 1 && hides_body(node)
-}
-
-fn hides_body(node: &Body) -> bool
-    ensures { result ≡ hides_body node.now }
-{
-    match node {
-        Body::Element { tag, attrs, .. } => ax_roles::hides(tag.as_str(), attrs),
-        Body::Words { .. } => false,
-    }
-}
+use ax_base::{Attrs, Body};
 
 /// Whether a node stands in a block of its own; a text does not.
 pub fn is_block(node: &Body) -> bool
