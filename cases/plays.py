@@ -82,21 +82,22 @@ class Story:
         requests = [line.get("ask") or line.get("again") or {"q": "root"} for line in self.client]
         return all(request["q"] in BUILT_REQUESTS for request in requests) and not any("notices" in line for line in self.client)
 
-    def trees(self):
-        """The tree of each moment."""
-        document, trees = Document(), []
+    def trees(self, moments):
+        """The trees of these moments, by their numbers."""
+        document, published, trees = Document(), 0, {}
         for edit in self.base:
             document.apply(edit)
-        trees.append(Tree(document))
-        for line in self.page:
+        for line in [{"flush": True}] + self.page:
             if "flush" in line:
-                trees.append(Tree(document))
+                trees.update({published: Tree(document)} if published in moments else {})
+                published += 1
             elif "until" not in line:
                 document.apply(line)
         return trees
 
-    def played(self):
-        page, client, published, taken, told, trees = 0, 0, 0, 0, "", self.trees()
+    def entries(self):
+        """The client's lines in their order, each with its moment and the moment taken by then."""
+        page, client, published, taken, entries = 0, 0, 0, 0, []
         turns = (self.turns or "") + "PC" * (len(self.page) + len(self.client))
         for side in turns:
             if side == "P" and page < len(self.page) and self.page[page].get("until", 0) <= taken:
@@ -105,11 +106,20 @@ class Story:
             elif side == "C" and client < len(self.client) and self.client[client].get("await", 0) <= published:
                 line = self.client[client]
                 taken = published if "ask" in line or "await" in line else taken
-                moment = published if "hear" in line else taken
-                request = line.get("ask") or line.get("again")
-                reply = trees[taken].answer(request) if request else "hear" if "hear" in line else "await"
+                entries.append((line, published if "hear" in line else taken, taken))
                 client += 1
-                told += "#%d @%d %s\n" % (client, moment, reply)
+        return entries
+
+    def dumped(self):
+        return self.trees([self.flushes])[self.flushes].dumped()
+
+    def played(self):
+        entries, told = self.entries(), ""
+        trees = self.trees({taken for line, _, taken in entries if "ask" in line or "again" in line})
+        for number, (line, moment, taken) in enumerate(entries, 1):
+            request = line.get("ask") or line.get("again")
+            reply = trees[taken].answer(request) if request else "hear" if "hear" in line else "await"
+            told += "#%d @%d %s\n" % (number, moment, reply)
         return told
 
 
@@ -121,5 +131,5 @@ def answered(lines, command):
             raise Refused(0, "NotBuilt")
     except Refused as refusal:
         return str(refusal), 2
-    text = story.trees()[-1].dumped() if command == "dump" else story.played()
+    text = story.dumped() if command == "dump" else story.played()
     return text + "end %d\n" % story.flushes, 0
