@@ -110,7 +110,7 @@ refused("an object past the greatest id", [START, '{"ask":{"q":"role","id":%d}}'
 refused("an object 0", [START, '{"ask":{"q":"role","id":0}}'], 2, "BadLine")
 
 
-def played(title, story):
+def alone(title, story):
     """A story without requests, whose tree is the root alone."""
     case(title, "dump", story, ALONE)
     case(title, "replay", story, "end 0\n")
@@ -185,15 +185,15 @@ runs("runs count characters", "\u00e9\U0001f600", "[0,2,0,0,0,0,0]", SAID % "\u0
 refused("runs of an element", ['{"runs":1,"list":[[1,0,0,0,0,0,0]]}'], 1, "NotText")
 
 # Tags and names.
-played("a tag of 32 bytes", [element(2, 1, "a" * 32), START])
+alone("a tag of 32 bytes", [element(2, 1, "a" * 32), START])
 refused("a tag of 33 bytes", [element(2, 1, "a" * 33)], 1, "BadLine")
 refused("an empty tag", [element(2, 1, "")], 1, "BadLine")
 refused("a tag that begins with a digit", [element(2, 1, "1a")], 1, "BadLine")
 refused("a tag in upper case", [element(2, 1, "Main")], 1, "BadLine")
 refused("a tag with a colon", [element(2, 1, "a:b")], 1, "BadLine")
-played("a name of 64 bytes", ['{"set":1,"name":"%s","value":""}' % ("a" * 64), START])
+alone("a name of 64 bytes", ['{"set":1,"name":"%s","value":""}' % ("a" * 64), START])
 refused("a name of 65 bytes", ['{"set":1,"name":"%s","value":""}' % ("a" * 65)], 1, "BadLine")
-played("a name with all its kinds of bytes", ['{"set":1,"name":"a-_:.9","value":""}', START])
+alone("a name with all its kinds of bytes", ['{"set":1,"name":"a-_:.9","value":""}', START])
 refused("a name with a space", ['{"set":1,"name":"a b","value":""}'], 1, "BadLine")
 case("taking away what is not there", "dump", ['{"unset":1,"name":"%s"}' % ("a" * 64), START], ALONE)
 
@@ -248,6 +248,25 @@ for title, edit, cause in [
     refused(title + ", after the start", TREE + [START, edit], 6, cause)
 refused("an id again after its removal", TREE + ['{"remove":2}', element(3)], 6, "UsedId")
 refused("a node below a removed one", TREE + ['{"remove":2}', '{"focus":3}'], 6, "NoNode")
+
+# Names.
+LINK = element(2, 1, "a", ',"attrs":{"href":"/"}')
+SPACE = " " * 65536
+case("a name behind 65,536 characters of white space", "dump",
+     [element(2, 1, "button"), text(3, 2, SPACE), text(4, 2, "x"), text(5, 2, SPACE), START],
+     ROOT + '2 1 button "x"\nend 0\n')
+case("a name from the 64th level", "dump",
+     [LINK] + [element(k, k - 1, "span") for k in range(3, 65)] + [text(65, 64, "deep"), START],
+     ROOT + '2 1 link "deep"\n65 2 text "deep"\nend 0\n')
+TARGET = [element(2, 1, "span", ',"attrs":{"id":"t","hidden":""}'), text(3, 2, "\u00e9" * 65536)]
+for count in (1, 8):
+    case("references to 65,536 characters: %d" % count, "dump",
+         TARGET + [element(4, 1, "input", ',"attrs":{"aria-labelledby":"%s"}' % " ".join(["t"] * count)), START],
+         ROOT + '4 1 textbox "%s"\nend 0\n' % ("\u00e9" * 512))
+case("a reference whose value has 4,096 bytes", "dump",
+     [element(2, 1, "span", ',"attrs":{"id":"%s","hidden":""}' % ("i" * 4096)), text(3, 2, "far"),
+      element(4, 1, "input", ',"attrs":{"aria-labelledby":"%s"}' % ("i" * 4096)), START],
+     ROOT + '4 1 textbox "far"\nend 0\n')
 
 # Both sides.
 refused("a flush before the start", ['{"flush":true}', START], 1, "NoStart")

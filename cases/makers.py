@@ -1,0 +1,277 @@
+"""Random stories, most of whose edits are accepted, and most of whose requests have something to tell."""
+import json
+import random
+
+from documents import Document
+from plays import BUILT_REQUESTS
+from trees import BLOCKS, CHECKED, COUNTED, LIVE_ROLES, NAMED_FROM_CONTENT, NAMELESS, RANGES, ROLES, SELECTED, Tree
+
+TEXTS = ("Save", "Hi", "one two", " lead", "trail ", "a  b\t", "\u00e9\u4e2d", '"q\\', "x\u0001\u000by", "\u00a0", "", " ", " \n\f\r")
+LONG_TEXTS = ("w" * 511 + " x", "w" * 512, "w" * 513, "ab  " * 200, " " * 40 + "long " * 60, "\u00e9" * 300)
+YES_AND_NO = ("true", "true", "false", " TRUE\n", "False", "", "yes", "tru e")
+THREE = YES_AND_NO + ("mixed", "mixed", "Mixed ")
+THERE = ("", "", "false", "x")
+VALUES = {
+    "id": ("a", "b", "c") * 8 + ("A", "", "a ", "a b"),
+    "aria-hidden": YES_AND_NO, "hidden": THERE, "disabled": THERE, "required": THERE, "readonly": THERE, "checked": THERE,
+    "display": ("none", "block", "block", "inline", "inline", " NONE", "Block\t", "inline-block", "", "none block"),
+    "type": ("checkbox", "radio", "range", "button", "submit", "reset", "hidden", "text", "", " CheckBox\t", "Range", "search",
+             "SUBMIT", "radio x"),
+    "tabindex": ("0", "-1", " 1\n", "123456789", "1234567890", "--1", "-", "", "+1", "1 2", "\u0663", "0x1"),
+    "href": ("", "/"),
+    "aria-disabled": YES_AND_NO, "aria-required": YES_AND_NO, "aria-readonly": YES_AND_NO, "aria-busy": YES_AND_NO,
+    "aria-checked": THREE, "aria-pressed": THREE, "aria-expanded": THREE, "aria-selected": THREE,
+    "aria-invalid": ("true", "false", " FALSE", "grammar", "", " "),
+    "aria-level": ("1", "2", "007", " 12 ", "999", "1000", "0", "000", "-1", "", "1.0", "+2", "\u0663"),
+    "aria-live": ("off", "polite", "assertive", " Polite", "OFF", "loud", "", " "),
+    "class": ("x",),
+}
+VALUES["for"] = VALUES["id"]
+REFERENCES = ("aria-labelledby", "aria-describedby")
+PLAIN = ("title", "alt", "value", "aria-label", "aria-valuetext", "aria-valuenow", "placeholder")
+NAMES = ["id", "role"] * 20 + list(REFERENCES) * 12 + ["for"] * 7 + list(PLAIN) * 3 + ["title", "value", "alt"] * 3 \
+    + [name for name in VALUES if name not in ("id", "for")] * 2 + ["aria-hidden", "hidden", "display", "tabindex", "type"] * 2 + COUNTED
+TAGS = """button button input input input input textarea img img a a label p h1 h2 h3 h4 h5 h6 li ul ol table tr td th nav main
+    article section br em h7 option""".split() + ["div", "span"] * 5
+USUAL = {"input": ("type", "type", "value", "id", "checked"), "img": ("alt", "role"), "label": ("for",), "a": ("href",),
+         "textarea": ("value", "id"), "div": ("role", "id"), "span": ("role", "id")}
+OWN = [(CHECKED, ["aria-checked"]), (SELECTED, ["aria-selected"]), (("button",), ["aria-pressed"]), (NAMELESS, ["aria-label"]),
+       (("heading", "row", "treeitem"), ["aria-level"]), (("textbox", "searchbox", "combobox"), ["value"]),
+       (RANGES, ["value", "aria-valuenow", "aria-valuetext"]), (LIVE_ROLES, ["aria-live"])]
+TOLD_APART = [role for roles, _ in OWN for role in roles] + ["generic", "none"]
+
+
+class Words:
+    """Random values."""
+
+    def __init__(self, seed):
+        self.random = random.Random(seed)
+
+    def chance(self, share):
+        return self.random.random() < share
+
+    def one_of(self, *values):
+        return self.random.choice(values)
+
+    def some(self, *counts):
+        return range(self.one_of(*counts))
+
+    def text(self):
+        if self.chance(0.04):
+            return self.one_of(*LONG_TEXTS)
+        return self.one_of(*TEXTS[:4]) if self.chance(0.4) else self.one_of(*TEXTS)
+
+    def spaced(self, words):
+        if self.chance(0.7):
+            return " ".join(words)
+        return "".join(self.one_of("", "", "", " ", "\n") + word + self.one_of(" ", " ", "\t", "\f ") for word in words)
+
+    def role(self):
+        words = [self.one_of("none", "presentation", "foo", "Text") for _ in self.some(0, 0, 0, 0, 1, 2)]
+        words += [self.one_of(*(TOLD_APART if self.chance(0.5) else sorted(ROLES))) for _ in self.some(0, 1, 1, 1, 1, 2)]
+        return self.spaced([word.upper() if self.chance(0.1) else word for word in words])
+
+    def references(self):
+        return self.spaced([self.one_of("a", "a", "b", "b", "c", "A", "x") for _ in self.some(0, 1, 1, 1, 1, 1, 2, 2, 2, 3, 8, 9, 12)])
+
+    def value(self, name):
+        if name in REFERENCES:
+            return self.references()
+        if name == "role":
+            return self.role()
+        return self.one_of(*VALUES[name]) if name in VALUES else self.text()
+
+    def attrs(self, tag, **given):
+        """Attributes, mostly some of those that the tag or the role has an eye on."""
+        names = [name for name in USUAL.get(tag, ()) if self.chance(0.5)]
+        names += [self.one_of(*NAMES) for _ in self.some(0, 0, 0, 1, 1, 2, 2, 3, 5)]
+        attrs = {**{name: self.value(name) for name in names}, **given}
+        words = attrs.get("role", "").lower().split() + [tag, attrs.get("type", "")]
+        own = [name for roles, names in OWN for name in names if set(words) & set(roles)]
+        attrs.update({name: self.value(name) for name in own if self.chance(0.7)})
+        return attrs
+
+    def rect(self):
+        x, y, w, h = [self.random.randrange(-30, 30) for _ in range(4)]
+        return [-1048576, 1048576, 1048576, 1048576] if self.chance(0.05) else [x, y, abs(w), abs(h)]
+
+
+class Editor(Words):
+    """Random edits of a document, which it does as far as they are accepted."""
+
+    def __init__(self, seed):
+        super().__init__(seed)
+        self.document = Document()
+
+    def any_id(self):
+        return self.random.randrange(1, 41)
+
+    def fresh(self):
+        """Mostly an id that was not used."""
+        free = [id for id in range(2, 60) if id not in self.document.used]
+        return self.one_of(*free) if free and self.chance(0.995) else self.any_id()
+
+    def id(self, is_it=lambda node: True):
+        """Mostly a node that is there and of that kind, and seldom any."""
+        fit = [id for id, node in self.document.nodes.items() if is_it(node)]
+        return self.one_of(*fit) if fit and self.chance(0.98) else self.any_id()
+
+    def element(self):
+        return self.id(lambda node: not node.is_text())
+
+    def text_node(self):
+        return self.id(lambda node: node.is_text())
+
+    def insert(self):
+        place = {"into": self.element(), **({"before": self.id()} if self.chance(0.1) else {})}
+        if self.chance(0.4):
+            return {"insert": self.fresh(), **place, "text": self.text()}
+        tag = self.one_of(*TAGS)
+        attrs = self.attrs(tag)
+        return {"insert": self.fresh(), **place, "tag": tag, **({"attrs": attrs} if attrs or self.chance(0.1) else {})}
+
+    def move(self):
+        children = self.document.nodes[1].children
+        before = {"before": self.id()} if self.chance(0.3) else {}
+        return {"move": self.one_of(*children) if children and self.chance(0.3) else self.id(), "into": self.element(), **before}
+
+    def set(self):
+        name = self.one_of(*NAMES)
+        return {"set": self.element(), "name": name, "value": self.value(name)}
+
+    def unset(self):
+        id = self.id(lambda node: node.attrs)
+        held = sorted(self.document.nodes[id].attrs) if id in self.document.nodes else []
+        return {"unset": id, "name": self.one_of(*held) if held and self.chance(0.9) else self.one_of(*NAMES)}
+
+    def runs(self):
+        """Mostly runs that fit their text."""
+        id = self.text_node()
+        length = len(self.document.nodes[id].text or "") if id in self.document.nodes else 2
+        ends = sorted({self.random.randrange(length + 1) for _ in self.some(0, 1, 2)} | {length} - {0})
+        line, runs = 0, []
+        for first, past in zip([0] + ends, ends):
+            line += self.random.randrange(2)
+            runs.append([first, past, line] + self.rect())
+        return {"runs": id, "list": [] if self.chance(0.1) else runs}
+
+    def edit(self):
+        kinds = (self.insert, self.move, self.set, self.unset, self.runs, lambda: {"remove": self.id()},
+                 lambda: {"text": self.text_node(), "to": self.text()}, lambda: {"frame": self.element(), "rect": self.rect()},
+                 lambda: {"focus": self.one_of(0, self.id(), self.id(), self.id())})
+        return self.random.choices(kinds, (50, 10, 16, 5, 5, 3, 6, 4, 6))[0]()
+
+    def accepted_edit(self):
+        """Mostly an edit that the document takes, and does it then."""
+        for _ in range(12):
+            edit = self.edit()
+            if self.document.cause(edit) is None or self.chance(0.004):
+                return self.done(edit)
+        return {"focus": 0}
+
+    def done(self, edit):
+        if self.document.cause(edit) is None:
+            self.document.apply(edit)
+        return edit
+
+    # Some edits that belong together.
+
+    def child(self, into, tag, attrs):
+        return self.done({"insert": self.fresh(), "into": into, "tag": tag, "attrs": attrs})
+
+    def new(self, tag, attrs):
+        """A new element anywhere."""
+        return self.child(self.one_of(*[id for id, node in self.document.nodes.items() if not node.is_text()]), tag, attrs)
+
+    def words(self, into):
+        return self.done({"insert": self.fresh(), "into": into, "text": self.text()})
+
+    def named_from_content(self):
+        """An element of which the content may be the name, with one more among its texts."""
+        role, tag = self.one_of(*NAMED_FROM_CONTENT, *NAMED_FROM_CONTENT, *NAMELESS, *sorted(ROLES)), self.one_of(*BLOCKS, *TAGS)
+        owner = self.new("span", {"role": role})
+        before = self.words(owner["insert"])
+        given = self.one_of({}, {}, {"display": self.one_of(*VALUES["display"])}, {"role": self.one_of(*TOLD_APART)}, {"role": "slider"})
+        inner = self.child(owner["insert"], tag, self.attrs(tag, **given))
+        return [owner, before, inner] + [self.words(edit["insert"]) for edit in (owner, inner) if self.chance(0.8)]
+
+    def referred(self):
+        """An element that refers to another, which may be hidden."""
+        hidden = self.one_of({}, {}, {"hidden": ""}, {"display": "none"}, {"aria-hidden": "true"})
+        word, name = self.one_of("a", "b", "c"), self.one_of("aria-labelledby", *REFERENCES)
+        outer, hidden = self.new("div", hidden), self.one_of({}, {}, hidden)
+        target = self.child(outer["insert"], self.one_of("span", "p", "td"), {"id": word, **hidden})
+        inner = self.child(target["insert"], self.one_of("i", "p", "input", "label"), self.one_of({}, {"hidden": ""}, {"title": "inner"}))
+        referring = self.new(self.one_of("input", "a", "section", "button", "p"), {name: word, "title": "title"})
+        return [outer, target, inner, referring, self.words(target["insert"]), self.words(inner["insert"])]
+
+    def labelled(self):
+        """An input and a label for it, in any order."""
+        word, hidden = self.one_of(*VALUES["id"]), self.one_of({}, {}, {"hidden": ""}, {"aria-labelledby": "a"})
+        kind = self.one_of({}, {"type": "checkbox"}, {"type": "submit", "value": "v"}, {"title": "title"}, {"aria-label": "label"})
+        label = self.new(self.one_of("label", "label", "label", "span"), {"for": word, **hidden})
+        field = self.new(self.one_of("input", "input", "textarea", "button"), {"id": word, **kind})
+        return [label, field, self.words(label["insert"])]
+
+    def live(self):
+        """What may be live in what may be live."""
+        outer = self.new("div", {"role": self.one_of(*LIVE_ROLES)})
+        inner = self.child(outer["insert"], "div", self.attrs("div", role=self.one_of(*LIVE_ROLES)))
+        return [outer, inner, self.words(inner["insert"])]
+
+    def edits(self):
+        """One edit, or some that belong together."""
+        if self.chance(0.88):
+            return [self.accepted_edit()]
+        return self.one_of(*[self.named_from_content] * 4, *[self.referred] * 3, *[self.labelled] * 2, self.live)()
+
+
+class Maker:
+    """Random stories."""
+
+    def __init__(self, seed):
+        self.random = random.Random(seed)
+
+    def request(self, editor):
+        word = editor.one_of(*BUILT_REQUESTS)
+        if editor.chance(0.002):
+            return {"q": "hit", "x": 0, "y": 0}
+        subject = {} if word in ("root", "focus") else {"id": editor.id()}
+        return {"q": word, **subject, **({"from": editor.random.randrange(3)} if word == "children" and editor.chance(0.3) else {})}
+
+    def line(self, editor, flushes):
+        kind = editor.random.choices(("flush", "until", "ask", "await", "hear", "blank", "notices", "start"),
+                                     (110, 25, 150, 50, 20, 20, 2, 1))[0]
+        return {
+            "flush": lambda: {"flush": True},
+            "until": lambda: {"until": editor.one_of(0, 0, max(flushes - 1, 0), flushes)},
+            "ask": lambda: {editor.one_of("ask", "ask", "again"): self.request(editor)},
+            "await": lambda: {"await": editor.one_of(0, flushes, flushes, flushes + editor.chance(0.2))},
+            "hear": lambda: {"hear": True},
+            "blank": lambda: None,
+            "notices": lambda: {"notices": True},
+            "start": lambda: {"start": 1},
+        }[kind]()
+
+    def last_look(self, editor, flushes):
+        """The last moment, and requests about its objects, most of which have something to tell."""
+        empty = ("none", 'description ""', "frame 0 0 0 0", "live off", "states", "children 0")
+        replies, asked = Tree(editor.document).replies, []
+        for words, count in [(("description", "value", "states", "level", "live", "frame"), 60), (BUILT_REQUESTS[2:], 20)]:
+            told = [{"q": word, "id": id} for id in replies for word in words if count == 20 or replies[id][word] not in empty]
+            asked += editor.random.sample(told, min(len(told), count))
+        return [{"flush": True}, {"await": flushes + 1}] + [{"again": request} for request in asked + [{"q": "focus"}]]
+
+    def story(self):
+        editor, flushes, lines = Editor(self.random.random()), 0, []
+        for _ in editor.some(0, 4, 8, 12, 16):
+            lines += editor.edits()
+        lines += [{"start": 1}] if editor.chance(0.98) else []
+        if editor.chance(0.5):
+            turns = "".join(editor.one_of("P", "P", "P", "C") for _ in editor.some(0, 10, 20, 40))
+            lines.append({"turns": turns + ("x" if editor.chance(0.02) else "")})
+        for _ in editor.some(0, 5, 10, 20, 30):
+            lines += editor.edits() if editor.chance(0.5) else [self.line(editor, flushes)]
+            flushes += lines[-1] is not None and "flush" in lines[-1]
+        lines += self.last_look(editor, flushes) if editor.chance(0.8) else []
+        return [editor.one_of("", " \t\r") if line is None else json.dumps(line) for line in lines]

@@ -1,0 +1,135 @@
+"""Stories of the second model: which are refused, and what a command writes of the others.
+
+Written from docs/STORY_FORMAT.md alone, sections 4 to 6. The lines are those of section 1; others are left to limits.py.
+"""
+import json
+
+from documents import Document
+from trees import Tree
+
+BUILT_REQUESTS = ("root", "focus", "role", "name", "description", "value", "states", "level", "live", "frame", "parent", "children")
+
+
+class Refused(Exception):
+    def __init__(self, line, cause):
+        super().__init__("refused %d %s\n" % (line, cause))
+
+
+class Story:
+    """The lines of a story, or Refused."""
+
+    def __init__(self, lines):
+        self.base, self.page, self.client, self.turns, self.started = [], [], [], None, False
+        document, awaits = Document(), []
+        for number, line in enumerate(lines, 1):
+            if line.strip(" \t\r"):
+                self.take(number, json.loads(line), document, awaits)
+        if not self.started:
+            raise Refused(0, "NoStart")
+        changed = [line for line in self.page if "until" not in line]
+        if changed and "flush" not in changed[-1]:
+            self.page.append({"flush": True})
+        self.flushes = sum("flush" in line for line in self.page)
+        for number, moment in awaits:
+            if moment > self.flushes:
+                raise Refused(number, "AwaitTooFar")
+        if self.is_stuck([moment for _, moment in awaits]):
+            raise Refused(0, "Stuck")
+
+    def take(self, number, line, document, awaits):
+        is_edit = not {"start", "flush", "until", "turns", "ask", "again", "hear", "await", "notices"} & set(line)
+        if is_edit:
+            cause = document.cause(line)
+            if cause:
+                raise Refused(number, cause)
+            document.apply(line)
+            (self.page if self.started else self.base).append(line)
+        elif "start" in line:
+            if self.started:
+                raise Refused(number, "SecondStart")
+            self.started = True
+        elif not self.started:
+            raise Refused(number, "NoStart")
+        elif "turns" in line:
+            if self.turns is not None or set(line["turns"]) - {"P", "C"}:
+                raise Refused(number, "BadTurns")
+            self.turns = line["turns"]
+        elif "flush" in line or "until" in line:
+            self.page.append(line)
+        else:
+            self.client.append(line)
+            if "await" in line:
+                awaits.append((number, line["await"]))
+
+    def published_at_most(self, taken):
+        """How many moments may be published while the client has taken that one."""
+        published = 0
+        for line in self.page:
+            if line.get("until", 0) > taken:
+                break
+            published += "flush" in line
+        return published
+
+    def is_stuck(self, awaits):
+        taken = 0
+        for moment in awaits:
+            if moment > self.published_at_most(taken):
+                return True
+            taken = max(taken, moment)
+        return any(line.get("until", 0) > taken for line in self.page)
+
+    def is_built(self):
+        requests = [line.get("ask") or line.get("again") or {"q": "root"} for line in self.client]
+        return all(request["q"] in BUILT_REQUESTS for request in requests) and not any("notices" in line for line in self.client)
+
+    def trees(self, moments):
+        """The trees of these moments, by their numbers."""
+        document, published, trees = Document(), 0, {}
+        for edit in self.base:
+            document.apply(edit)
+        for line in [{"flush": True}] + self.page:
+            if "flush" in line:
+                trees.update({published: Tree(document)} if published in moments else {})
+                published += 1
+            elif "until" not in line:
+                document.apply(line)
+        return trees
+
+    def entries(self):
+        """The client's lines in their order, each with its moment and the moment taken by then."""
+        page, client, published, taken, entries = 0, 0, 0, 0, []
+        turns = (self.turns or "") + "PC" * (len(self.page) + len(self.client))
+        for side in turns:
+            if side == "P" and page < len(self.page) and self.page[page].get("until", 0) <= taken:
+                published += "flush" in self.page[page]
+                page += 1
+            elif side == "C" and client < len(self.client) and self.client[client].get("await", 0) <= published:
+                line = self.client[client]
+                taken = published if "ask" in line or "await" in line else taken
+                entries.append((line, published if "hear" in line else taken, taken))
+                client += 1
+        return entries
+
+    def dumped(self):
+        return self.trees([self.flushes])[self.flushes].dumped()
+
+    def played(self):
+        entries, told = self.entries(), ""
+        trees = self.trees({taken for line, _, taken in entries if "ask" in line or "again" in line})
+        for number, (line, moment, taken) in enumerate(entries, 1):
+            request = line.get("ask") or line.get("again")
+            reply = trees[taken].answer(request) if request else "hear" if "hear" in line else "await"
+            told += "#%d @%d %s\n" % (number, moment, reply)
+        return told
+
+
+def answered(lines, command):
+    """What the command writes of these lines, and its status."""
+    try:
+        story = Story(lines)
+        if not story.is_built():
+            raise Refused(0, "NotBuilt")
+    except Refused as refusal:
+        return str(refusal), 2
+    text = story.dumped() if command == "dump" else story.played()
+    return text + "end %d\n" % story.flushes, 0
