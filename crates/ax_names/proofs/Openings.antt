@@ -127,7 +127,7 @@ count_append-step : (s : Bool) (b : ℕ) (x y : Chars) → is_char_start b ≡ s
 count_append-step true b x y e ih = let k = count_start b x e in let l = count_start b (x ++ y) e in omega arith
 count_append-step false b x y e ih = let k = count_on b x e in let l = count_on b (x ++ y) e in omega arith
 
-count_append : (x y : Chars) → char_count (x ++ y) ≡ char_count x + char_count y
+pub count_append : (x y : Chars) → char_count (x ++ y) ≡ char_count x + char_count y
 count_append [] y = let k = count_nil in omega arith
 count_append (b ∷ x) y = count_append-step (is_char_start b) b x y refl (count_append x y)
 
@@ -269,18 +269,18 @@ put_full w c full = λ i. record { words = words_are i; more = more_is i }
     more_is : true ≡ is_longer (w ++ encode c)
     more_is = sym (is_longer-true (w ++ encode c) (let k = count_push w c in omega arith))
 
--- a character fits
-pub put_fits : (w : Chars) (c : ℕ) → char_count w < 512 → with_words (w ++ encode_utf8 c) false ≡ followed (with_words w false) (encode_utf8 c)
-put_fits w c room = λ i. record { words = words_are i; more = more_is i }
+-- a text fits
+text_fits : (w t : Chars) → char_count w + char_count t ≤ 512 → with_words (w ++ t) false ≡ followed (with_words w false) t
+text_fits w t room = λ i. record { words = words_are i; more = more_is i }
   where
-    fits : char_count (w ++ encode c) ≤ 512
-    fits = let k = count_push w c in omega arith
+    fits : char_count (w ++ t) ≤ 512
+    fits = let k = count_append w t in omega arith
 
-    words_are : w ++ encode c ≡ cut (w ++ encode c)
-    words_are = sym (take_all (w ++ encode c) 512 fits)
+    words_are : w ++ t ≡ cut (w ++ t)
+    words_are = sym (take_all (w ++ t) 512 fits)
 
-    more_is : false ≡ is_longer (w ++ encode c)
-    more_is = sym (is_longer-false (w ++ encode c) fits)
+    more_is : false ≡ is_longer (w ++ t)
+    more_is = sym (is_longer-false (w ++ t) fits)
 
 -- the same of a value whose words and mark are known
 
@@ -290,9 +290,16 @@ stays_nil o w m view most = subst (λ (p : Opening). p ≡ followed p []) view (
 pub puts_none : (o : Opening) (w : Chars) (m : Bool) (c : ℕ) → with_words w m ≡ o → m ≡ false → char_count w ≡ 512 → with_words w true ≡ followed o (encode_utf8 c)
 puts_none o w m c view unmarked full = put_full w c full ∙ ap (λ (p : Opening). followed p (encode c)) ((λ i. with_words w (sym unmarked i)) ∙ view)
 
+pub puts_text : (o : Opening) (w t new : Chars) (m : Bool) → with_words w m ≡ o → m ≡ false → char_count w + char_count t ≤ 512 → new ≡ w ++ t → with_words new m ≡ followed o t
+puts_text o w t new m view unmarked room is =
+    (λ i. with_words (is i) (unmarked i)) ∙ text_fits w t room ∙ ap (λ (p : Opening). followed p t) ((λ i. with_words w (sym unmarked i)) ∙ view)
+
 pub puts_one : (o : Opening) (w new : Chars) (m : Bool) (c : ℕ) → with_words w m ≡ o → m ≡ false → char_count w < 512 → new ≡ w ++ encode_utf8 c → with_words new m ≡ followed o (encode_utf8 c)
-puts_one o w new m c view unmarked room is =
-    (λ i. with_words (is i) (unmarked i)) ∙ put_fits w c room ∙ ap (λ (p : Opening). followed p (encode c)) ((λ i. with_words w (sym unmarked i)) ∙ view)
+puts_one o w new m c view unmarked room is = puts_text o w (encode c) new m view unmarked (let k = count_encode c in omega arith) is
+
+-- where more came, nothing that follows changes anything
+pub puts_nothing : (o : Opening) (w t : Chars) (m : Bool) → with_words w m ≡ o → m ≡ true → o ≡ followed o t
+puts_nothing o w t m view marked = subst (λ (p : Opening). p ≡ followed p t) ((λ i. with_words w (sym marked i)) ∙ view) refl
 
 pub opening_nil : with_words [] false ≡ opening_of []
 opening_nil = λ i. record { words = sym (take_nil 512) i; more = more_is i }

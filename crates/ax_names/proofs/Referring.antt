@@ -63,15 +63,21 @@ module _ (d : Document) (text : Chars) where
   at_eight rest k kept so_far many = let none : 8 - k ≡ 0 = omega arith in none_left rest k kept so_far (ap (λ n. apart d n (tokens rest)) none)
 
   -- one more token
-  pub one_more : (together : (a b : Chars) → piece_of (a ++ b) ≡ joined (piece_of a) (piece_of b)) (rest token after : Chars) (k : ℕ) (old new : Phrase)
-      → IsReferredSoFar d text rest k old → k < 8 → tokens rest ≡ token ∷ tokens after → new ≡ joined old (piece_of (32 ∷ referred_text d token))
-      → IsReferredSoFar d text after (k + 1) new
-  one_more together rest token after k old new so_far low is added =
+  pub one_more : (rest token after : Chars) (k : ℕ) (old new : Phrase) → IsReferredSoFar d text rest k old → k < 8 → tokens rest ≡ token ∷ tokens after
+      → ((before : Chars) → old ≡ piece_of before → new ≡ piece_of (before ++ 32 ∷ referred_text d token)) → IsReferredSoFar d text after (k + 1) new
+  one_more rest token after k old new so_far low is added =
       let more : Chars = 32 ∷ referred_text d token in
       let rest_is : 8 - k ≡ suc (8 - (k + 1)) = omega arith in
       let given : apart d (8 - k) (tokens rest) ≡ more ++ apart d (8 - (k + 1)) (tokens after) = (λ i. apart d (rest_is i) (is i)) in
       record {
         done = so_far.done ++ more;
-        same = added ∙ ap (λ p. joined p (piece_of more)) so_far.same ∙ sym (together so_far.done more);
+        same = added so_far.done so_far.same;
         whole = append_assoc so_far.done more (apart d (8 - (k + 1)) (tokens after)) ∙ ap (λ l. so_far.done ++ l) (sym given) ∙ so_far.whole;
       }
+
+-- a space and then a text behind another
+pub spaced_behind : ((a b : Chars) → piece_of (a ++ b) ≡ joined (piece_of a) (piece_of b)) → (before said : Chars) (old mid new : Phrase) → old ≡ piece_of before → mid ≡ joined old (piece_of (32 ∷ []))
+    → new ≡ joined mid (piece_of said) → new ≡ piece_of (before ++ 32 ∷ said)
+spaced_behind together before said old mid new is space added =
+    added ∙ ap (λ p. joined p (piece_of said)) (space ∙ ap (λ p. joined p (piece_of (32 ∷ []))) is ∙ sym (together before (32 ∷ [])))
+    ∙ sym (together (before ++ 32 ∷ []) said) ∙ ap piece_of (append_assoc before (32 ∷ []) said)

@@ -122,8 +122,32 @@ impl Front {
         self.put(' ')
     }
 
+    /// Puts in the characters that another keeps, behind a space where white space came between.
+    pub fn put_words(&mut self, white: bool, words: &Front) -> Result<(), NoMemory>
+        ensures { OnOk result (self.new ≡ followed self.old (spaced self.old.words white words.now.words)) }
+    {
+        let bare = words.is_empty();
+        self.put_gap(white && !bare)?;
+        self.put_all(words)
+    }
+
+    /// Puts in the characters that another keeps, at once where they fit.
+    fn put_all(&mut self, words: &Front) -> Result<(), NoMemory>
+        ensures { OnOk result (self.new ≡ followed self.old words.now.words) }
+    {
+        if self.more {
+            return Ok(());
+        }
+        if words.count <= MOST - self.count {
+            self.string.push_str(words.as_str())?;
+            self.count += words.count;
+            return Ok(());
+        }
+        self.put_str(words.as_str())
+    }
+
     /// Puts the characters of a text in, as they are.
-    pub fn put_str(&mut self, text: &str) -> Result<(), NoMemory>
+    fn put_str(&mut self, text: &str) -> Result<(), NoMemory>
         ensures { OnOk result (self.new ≡ followed self.old text.now) }
     {
         // A look at a field: what always holds of the fields is known from here on.
@@ -132,15 +156,6 @@ impl Front {
             self.put(c)?;
         }
         Ok(())
-    }
-
-    /// Puts flat words in, behind a space where white space came between.
-    pub fn put_words(&mut self, white: bool, words: &str) -> Result<(), NoMemory>
-        ensures { OnOk result (self.new ≡ followed self.old (spaced self.old.words white words.now)) }
-    {
-        let bare = words.is_empty();
-        self.put_gap(white && !bare)?;
-        self.put_str(words)
     }
 
     /// Puts a text in, made flat, where white space came before it or not. It reads no further once nothing changes any more.

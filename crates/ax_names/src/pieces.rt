@@ -79,7 +79,7 @@ impl Piece {
         let bare = self.words.is_empty();
         let blank = other.words.is_empty();
         let white = self.ends || other.starts;
-        self.words.put_words(white, other.words.as_str())?;
+        self.words.put_words(white, &other.words)?;
         let more = other.words.has_more();
         self.words.note_more(more);
         self.starts = self.starts || (bare && other.starts);

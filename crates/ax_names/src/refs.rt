@@ -1,5 +1,6 @@
 //! What references say.
-ghost use Rattle.std.specs.Prelude.{◌≡◌, ◌∷◌, IfOk, OnOk, IsTrue};
+ghost use Rattle.std.specs.Prelude.{◌≡◌, ◌∷◌, ◌++◌, IfOk, OnOk, IsTrue};
+ghost use Rattle.ax_base.specs.Characters.{Chars};
 ghost use Rattle.ax_base.specs.Document.{has};
 ghost use Rattle.ax_base.specs.References.{referred_node, referred_text};
 ghost use Rattle.ax_names.specs.Pieces.{piece_of, joined, all_apart};
@@ -47,7 +48,6 @@ fn all_referred<L: Ledger>(
     ensures value { IfOk result (λ p. p ≡ piece_of (all_apart (all_referred dom.now text.now))) }
     ensures names { OnOk result (AreNamesOf dom.now names.new) }
 {
-    pieces_tell();
     let mut joined = Piece::empty(alloc);
     let mut rest = text;
     for _ in 0..MOST {
@@ -70,15 +70,15 @@ fn push_token<L: Ledger>(
     steps: &mut Steps<L>,
 ) -> Result<(), NoMemory>
     requires names { AreNamesOf dom.now names.old }
-    ensures value { OnOk result (into.new ≡ joined into.old (piece_of (32 ∷ referred_text dom.now token.now))) }
+    ensures value { OnOk result ((before : Chars) → into.old ≡ piece_of before → into.new ≡ piece_of (before ++ 32 ∷ referred_text dom.now token.now)) }
     ensures names { OnOk result (AreNamesOf dom.now names.new) }
 {
     pieces_tell();
-    let mut said = Piece::of(alloc, " ")?;
-    if let Some(id) = names.targets.first(token) {
-        push_node(alloc, dom, names, id, &mut said, steps)?;
+    into.push(" ")?;
+    match names.targets.first(token) {
+        Some(id) => push_node(alloc, dom, names, id, into, steps),
+        None => Ok(()),
     }
-    into.append(&said)
 }
 
 /// Adds what a node says that is referred to. It is put together once, and then looked up.

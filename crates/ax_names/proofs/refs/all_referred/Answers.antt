@@ -20,7 +20,7 @@ push_token-requires g c = record { names = c.loop.invariant.0 }
 pub loop-preserved : goal.loop-preserved
 loop-preserved g c = (
   c.in_ok-push_token.ensures.names,
-  one_more c.args.dom.now c.args.text.now c.pieces_tell.ensures.together c.loop.rest.now c.in-Some.token.now c.in-Some.after.now c.loop.counter c.loop.joined c.push_token.new.into c.loop.invariant.1 c.loop-test.true
+  one_more c.args.dom.now c.args.text.now c.loop.rest.now c.in-Some.token.now c.in-Some.after.now c.loop.counter c.loop.joined c.push_token.new.into c.loop.invariant.1 c.loop-test.true
       c.in-Some.ensures.tokens c.in_ok-push_token.ensures.value,
   search rules,
 )
