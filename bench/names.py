@@ -60,7 +60,8 @@ def measure(program, lines, runs):
 def print_references(program, title, text, count):
     with_references, size = measure(program, referring(count, text, "aria-labelledby"), 3)
     without, _ = measure(program, referring(count, text, "data-labelledby"), 3)
-    print("%d elements, each with 8 references to 1 MB of %s: %.2f times as long as without (%.0f ms, %.0f ms), memory %.1f times the story (%.1f MB)"
+    print("%d elements, each with 8 references to 1 MB of %s: %.2f times as long as without (%.0f ms, %.0f ms), "
+          "memory %.1f times the story (%.1f MB)"
           % (count, title, with_references.seconds / without.seconds, with_references.seconds * 1000,
              without.seconds * 1000, with_references.memory / size, size / 1e6))
 
