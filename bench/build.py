@@ -51,7 +51,8 @@ def main():
     if len(sys.argv) != 2:
         sys.exit(__doc__)
     program = os.path.abspath(sys.argv[1])
-    for title, make, few, many in [("wide", wide, 1000, 60000), ("64 deep", deep, 1000, 60000), ("16 attributes each", dressed, 1000, 4000)]:
+    kinds = [("wide", wide, 1000, 60000), ("64 deep", deep, 1000, 60000), ("16 attributes each", dressed, 1000, 4000)]
+    for title, make, few, many in kinds:
         least, most = seconds(program, make(few)) / few, seconds(program, make(many)) / many
         print("%-18s a node among %d takes %.2f us, among %d %.2f us: ratio %.2f"
               % (title, few, least * 1e6, many, most * 1e6, most / least))
