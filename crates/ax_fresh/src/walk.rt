@@ -86,7 +86,9 @@ fn put_object<L: Ledger>(
     let id = cell.id;
     let shut = prunes(role);
     let mut below = Ids::new(alloc);
-    gather_inside(alloc, dom, id, shut, live, id, &mut below, names, records, steps)?;
+    gather_inside(
+        alloc, dom, id, shut, live, id, &mut below, names, records, steps,
+    )?;
     let object = record_of(alloc, dom, names, cell, role, live, parent, below, steps)?;
     records.put(object)
 }
@@ -145,7 +147,9 @@ fn gather<L: Ledger>(
     ensures names { OnOk result (AreNamesOf dom.now names.new) }
 {
     for child in dom.children(node, steps) {
-        gather_child(alloc, dom, *child, live, above, found, names, records, steps)?;
+        gather_child(
+            alloc, dom, *child, live, above, found, names, records, steps,
+        )?;
     }
     Ok(())
 }
@@ -183,8 +187,20 @@ fn gather_child<L: Ledger>(
     let live = live_by(role, &cell.body).unwrap_or(around);
     if node_is_ignored(child, role, &cell.body) {
         let shut = prunes(role);
-        return gather_inside(alloc, dom, child, shut, live, above, found, names, records, steps);
+        return gather_inside(
+            alloc, dom, child, shut, live, above, found, names, records, steps,
+        );
     }
-    put_object(alloc, dom, cell, role, live, Some(above), names, records, steps)?;
+    put_object(
+        alloc,
+        dom,
+        cell,
+        role,
+        live,
+        Some(above),
+        names,
+        records,
+        steps,
+    )?;
     found.push(child)
 }

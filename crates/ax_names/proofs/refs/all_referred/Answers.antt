@@ -1,4 +1,4 @@
-use Rattle.std.proofs.Common.{rules, arith}
+use Rattle.std.proofs.Common.{rules}
 use Rattle.ax_names.proofs.Referring.{none_yet, at_end, at_eight, one_more}
 use Rattle.ax_names.proofs.refs.all_referred.Goals as goal
 

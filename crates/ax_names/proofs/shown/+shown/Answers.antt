@@ -1,6 +1,6 @@
-use Rattle.std.proofs.Common.{◌≡◌, ◌∙◌, IfOk, ap, subst, arith}
+use Rattle.std.proofs.Common.{◌∙◌, ap, arith}
 use Rattle.std.proofs.lemmas.Result.{IfOk-weaker}
-use Rattle.ax_base.specs.Document.{IsChild, depth}
+use Rattle.ax_base.specs.Document.{IsChild}
 use Rattle.ax_base.specs.Roles.{hides}
 use Rattle.ax_base.specs.Said.{child_text}
 use Rattle.ax_base.specs.References.{said1}
