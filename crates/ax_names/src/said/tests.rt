@@ -3,7 +3,8 @@ ghost use Rattle.std.specs.Prelude.{◌≡◌, IsTrue};
 ghost use Rattle.ax_base.specs.Document.{root, has};
 
 use crate::plain::said_part;
-use crate::{Piece, said_plain, said_shown, said_whole};
+use crate::shown::content;
+use crate::{Names, Piece, description_of, name_of, said_plain, said_shown, said_whole};
 use ax_base::{Attrs, ObjId, Steps, Text, cap512, flat};
 use ax_dom::{Dom, Edit};
 use std::alloc::Global;
@@ -130,6 +131,11 @@ fn compare<L: Ledger>(rt: &impl Abort, alloc: Global, dom: &Dom, blank: Blank) -
     let all_same = is_opening(alloc, &whole, all_kept)?;
     assert!(rt; same);
     assert!(rt; all_same);
+    let shown = said_shown(alloc, dom, ObjId(1), &mut steps)?;
+    let mut names = Names::new(alloc, dom, &mut steps)?;
+    let content = content(alloc, dom, &mut names, ObjId(1), &mut steps)?;
+    let shown_same = is_opening(alloc, &shown, content)?;
+    assert!(rt; shown_same);
     Ok(())
 }
 
@@ -138,4 +144,28 @@ fn is_opening(alloc: Global, text: &Text, piece: Piece) -> Result<bool, Fail> {
     let flat = flat(alloc, text.as_str())?;
     let name = cap512(alloc, &flat)?;
     Ok(name.count() == 512 && piece.into_name().is(name.as_str()))
+}
+
+#[test]
+fn a_label_names_and_a_tooltip_describes(rt: HostRuntime) -> Result<(), Fail> {
+    let alloc = rt.alloc();
+    let mut dom = article(alloc)?;
+    set(alloc, &mut dom, 1, "aria-label", "Shop")?;
+    set(alloc, &mut dom, 1, "title", " Our\toffer ")?;
+    ask::<Brand>(&rt, alloc, &dom, Blank::new(1))
+}
+
+fn ask<L: Ledger>(rt: &impl Abort, alloc: Global, dom: &Dom, blank: Blank) -> Result<(), Fail>
+    requires name { blank.name ≡ L.name }
+    requires parts { blank.parts ≡ L.parts }
+    requires whole { blank.parts ≡ 1 }
+    requires root { IsTrue (has dom.now root) }
+{
+    let (book, share) = blank.open::<L>();
+    let mut steps = Steps::new(book, share);
+    let name = name_of(alloc, dom, ObjId(1), &mut steps)?;
+    let description = description_of(alloc, dom, ObjId(1), &mut steps)?;
+    assert!(rt; name.is("Shop"));
+    assert!(rt; description.is("Our offer"));
+    Ok(())
 }
