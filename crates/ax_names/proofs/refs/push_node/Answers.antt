@@ -6,7 +6,7 @@ use Rattle.ax_names.proofs.refs.push_node.Goals as goal
 
 pub returns-in-Some-clause-value : goal.returns-in-Some-clause-value
 returns-in-Some-clause-value g c =
-    subst (λ p. OnOk c.append.result (c.append.new.self ≡ joined c.args.into.now p)) (c.in-Some.ensures (referred_node c.args.dom.now) c.requires.names.referred) c.append.ensures
+    subst (λ p. OnOk c.append.result (c.append.new.self ≡ joined c.args.into.now p)) (c.in-Some.ensures.sound (referred_node c.args.dom.now) c.requires.names.referred) c.append.ensures
 
 pub returns-clause-names : goal.returns-clause-names
 returns-clause-names g c =
@@ -14,4 +14,4 @@ returns-clause-names g c =
       targets = c.requires.names.targets;
       referred = kept (referred_node c.args.dom.now) c.requires.names.referred c.in_ok-said.ensures;
       contents = c.requires.names.contents;
-    }) c.keep.ensures
+    }) c.keep.ensures.sound

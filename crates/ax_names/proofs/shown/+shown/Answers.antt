@@ -29,7 +29,7 @@ shown_children-loop-child-preserved g t c = (
 
 pub shown_inside-returns-in-Some-clause-value : goal.shown_inside-returns-in-Some-clause-value
 shown_inside-returns-in-Some-clause-value g t c =
-    let kept = c.in-Some.ensures (content_text c.args.dom.now) c.requires.names.contents in
+    let kept = c.in-Some.ensures.sound (content_text c.args.dom.now) c.requires.names.contents in
     IfOk-weaker c.copy.result _ _ (λ p e. e ∙ kept) c.copy.ensures
 
 pub shown_cell-returns-then-node_hides-clause-value : goal.shown_cell-returns-then-node_hides-clause-value

@@ -5,7 +5,7 @@ use Rattle.ax_names.proofs.shown.content.Goals as goal
 
 pub returns-in-Some-clause-value : goal.returns-in-Some-clause-value
 returns-in-Some-clause-value g c =
-    let kept = c.in-Some.ensures (content_text c.args.dom.now) c.requires.names.contents in
+    let kept = c.in-Some.ensures.sound (content_text c.args.dom.now) c.requires.names.contents in
     IfOk-weaker c.copy.result _ _ (λ p e. e ∙ kept) c.copy.ensures
 
 pub returns-clause-names : goal.returns-clause-names
@@ -14,5 +14,5 @@ returns-clause-names g c =
     record {
       targets = names.targets;
       referred = names.referred;
-      contents = c.in_ok-keep.ensures (content_text c.args.dom.now) names.contents (c.in_ok-copy.ensures ∙ c.in_ok-said.ensures.value);
+      contents = c.in_ok-keep.ensures.sound (content_text c.args.dom.now) names.contents (c.in_ok-copy.ensures ∙ c.in_ok-said.ensures.value);
     }
