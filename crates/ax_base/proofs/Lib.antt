@@ -8,6 +8,7 @@ pub mod FirstTokens
 pub mod Lookups
 pub mod SameLookups
 pub mod Repeats
+pub mod Rising
 pub mod Shapes
 pub mod Joins
 pub mod Reached
