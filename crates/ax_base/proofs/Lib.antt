@@ -7,6 +7,9 @@ pub mod Flattening
 pub mod FirstTokens
 pub mod Lookups
 pub mod SameLookups
+pub mod Filled
+pub mod IdParts
+pub mod Marked
 pub mod Repeats
 pub mod Shapes
 pub mod Joins
@@ -16,6 +19,7 @@ pub mod Objects
 pub mod Written
 pub mod Rectangles
 pub mod SaidLaws
+pub mod Quotes
 mod Tables
 mod Rows
 mod NameRows
