@@ -16,7 +16,6 @@ pub mod Joins
 pub mod Reached
 pub mod KidsLaws
 pub mod Objects
-pub mod Written
 pub mod Rectangles
 pub mod SaidLaws
 pub mod Quotes
