@@ -126,7 +126,7 @@ module _ {X : Type 0} where
       (rising-filled ys)
       (IsStrictlyIncreasing-from_sorted (keys_of (remove_entry (is_at (nat_cmp k)) (filled_from 0 xs))) (sorted_left (is_at (nat_cmp k)) (filled_from 0 xs) (sorted-filled 0 xs)))
       (λ q. found-filled q ys ∙ same q ∙ ap (λ b. cond b None (get_or xs q None)) (sym (finds_is k q)) ∙ ap (cond (finds k q) None) (sym (found-filled q xs))
-        ∙ sym (lookup-remove_entry {eq = λ x y. is_at (nat_cmp x) y} (eq_by_cmp_equiv nat_cmp_total) (is_at (nat_cmp k)) (λ x y e. ap (λ j. is_at (nat_cmp j) y) (found_is k x e)) q (filled_from 0 xs) (IsDistinct-from_sorted nat_cmp (keys_of (filled_from 0 xs)) (sorted-filled 0 xs))))
+      ∙ sym (lookup-remove_entry {eq = λ x y. is_at (nat_cmp x) y} (eq_by_cmp_equiv nat_cmp_total) (is_at (nat_cmp k)) (λ x y e. ap (λ j. is_at (nat_cmp j) y) (found_is k x e)) q (filled_from 0 xs) (IsDistinct-from_sorted nat_cmp (keys_of (filled_from 0 xs)) (sorted-filled 0 xs))))
 
   -- a value is written where there is one
   pub set-filled : (xs ys : List (Option X)) (k : ℕ) (w : X) → is_some (get_or xs k None) ≡ true → ((q : ℕ) → get_or ys q None ≡ cond (eqb k q) (Some w) (get_or xs q None))
@@ -136,7 +136,7 @@ module _ {X : Type 0} where
       (rising-filled ys)
       (subst IsStrictlyIncreasing (sym (keys-set_value (is_at (nat_cmp k)) (filled_from 0 xs) w)) (rising-filled xs))
       (λ q. found-filled q ys ∙ same q ∙ ap (λ b. cond b (Some w) (get_or xs q None)) (sym (finds_is k q)) ∙ ap (cond (finds k q) (Some w)) (sym (found-filled q xs))
-        ∙ sym (lookup-set_value_at q k w (filled_from 0 xs) (ap is_some (found-filled k xs) ∙ there)))
+      ∙ sym (lookup-set_value_at q k w (filled_from 0 xs) (ap is_some (found-filled k xs) ∙ there)))
 
 module _ {V : Type 0} where
   -- what a place that is read says of its id

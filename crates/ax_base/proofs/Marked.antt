@@ -39,9 +39,9 @@ some_mark false = refl
 pub has-marked : (bs : List Bool) (q : ℕ) (b : Bool) → q < length bs → b ≡ get_or bs q b → b ≡ list_any (is_at (nat_cmp q)) (marked bs)
 has-marked bs q b within read =
     sym (
-      any-found (is_at (nat_cmp q)) (filled_from 0 (map mark_of bs))
-      ∙ ap is_some (found-filled q (map mark_of bs) ∙ get_or-map mark_of bs q b None within ∙ ap mark_of (sym read))
-      ∙ some_mark b
+    any-found (is_at (nat_cmp q)) (filled_from 0 (map mark_of bs))
+    ∙ ap is_some (found-filled q (map mark_of bs) ∙ get_or-map mark_of bs q b None within ∙ ap mark_of (sym read))
+    ∙ some_mark b
     )
 
 past_marks : (bs : List Bool) (q : ℕ) → length bs ≤ q → get_or (map mark_of bs) q None ≡ None

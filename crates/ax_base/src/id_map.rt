@@ -16,8 +16,8 @@ use std::marker::Model;
 pub(crate) const NEAR: u32 = 131_072;
 
 /// Values by ids: those of ids below 131,072 in a list that is as long as the greatest of them that was ever put in, at most
-/// that many places of 16 bytes, each with its value behind a pointer, and those of greater ids in a tree map. A look-up of a
-/// small id reads one place. A clause sees them as a list by rising id.
+/// that many places of a tag and a pointer to the value, and those of greater ids in a tree map. A look-up of a small id reads
+/// one place. A clause sees them as a list by rising id.
 #[derive(Drop)]
 pub struct IdMap<V> {
     near: Dense<V>,

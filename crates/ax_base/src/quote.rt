@@ -40,7 +40,9 @@ fn push_inner(out: &mut String, text: &str) -> Result<(), AllocError>
 fn is_plain(text: &str) -> bool
     ensures { result ≡ list_all stands_for_itself text.now }
 {
-    text.as_bytes().iter().all(|b| *b >= b' ' && *b != b'"' && *b != b'\\')
+    text.as_bytes()
+        .iter()
+        .all(|b| *b >= b' ' && *b != b'"' && *b != b'\\')
 }
 
 /// Adds what stands between the quotes, character by character.

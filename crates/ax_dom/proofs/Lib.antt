@@ -18,3 +18,4 @@ pub mod Fresh
 pub mod Amended
 pub mod Focused
 pub mod Walks
+pub mod Counted
