@@ -127,7 +127,7 @@ impl Attrs {
     pub fn copy(&self, alloc: Global) -> Result<Attrs, NoMemory>
         ensures { IfOk result (λ attrs. attrs ≡ self.now) }
     {
-        let mut items = Vec::new(alloc);
+        let mut items = Vec::with_capacity(alloc, self.items.len())?;
         for attr in &self.items {
             items.push(attr.copy(alloc)?)?;
         }
