@@ -12,7 +12,7 @@ fn attr(alloc: Global, name: &str, value: &str) -> Result<Attrs, Fail> {
 /// One attribute more.
 fn and(alloc: Global, mut attrs: Attrs, name: &str, value: &str) -> Result<Attrs, Fail> {
     let key = Text::from_str(alloc, name)?;
-    attrs.set(alloc, &key, Text::from_str(alloc, value)?)?;
+    attrs.set(key, Text::from_str(alloc, value)?)?;
     Ok(attrs)
 }
 

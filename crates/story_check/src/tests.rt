@@ -1,5 +1,6 @@
 //! Inputs with the story that they are, or with their first refusal.
-use crate::{AcceptFail, accept};
+use crate::{AcceptFail, accept, accept_last};
+use ax_base::ObjId;
 use std::alloc::{AllocError, Global};
 use std::test::Fail;
 
@@ -121,6 +122,18 @@ fn stories_are_accepted(rt: HostRuntime) -> Result<(), Fail> {
             "at {text}"
         );
     }
+    Ok(())
+}
+
+// An edit stands behind the last flush line, so that there is one flush more.
+#[test]
+fn the_last_moment_is_told(rt: HostRuntime) -> Result<(), Fail> {
+    let text =
+        "{\"insert\":2,\"into\":1,\"text\":\"A\"}\n{\"start\":1}\n{\"flush\":true}\n{\"focus\":2}\n{\"hear\":true}\n";
+    let last = accept_last(rt.alloc(), text.as_bytes())?;
+    assert_eq!(rt; last.flushes, 2);
+    assert_eq!(rt; last.client.len(), 1);
+    assert_eq!(rt; last.document.focus(), Some(ObjId(2)));
     Ok(())
 }
 
