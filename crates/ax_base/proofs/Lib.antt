@@ -15,6 +15,7 @@ pub mod KidsLaws
 pub mod Objects
 pub mod Written
 pub mod Rectangles
+pub mod TextRoles
 pub mod SaidLaws
 mod Tables
 mod Rows

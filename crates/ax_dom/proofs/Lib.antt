@@ -1,5 +1,6 @@
 pub mod Fitting
 pub mod Bounded
+pub mod RightRuns
 pub mod Placed
 pub mod Kept
 pub mod Without

@@ -5,7 +5,7 @@ ghost use Rattle.ax_base.specs.Document.{root, has, body};
 ghost use Rattle.ax_dom.specs.Bodies.{body_after};
 ghost use Rattle.ax_dom.specs.Bounds.{EditKeepsBounds};
 ghost use Rattle.ax_dom.specs.Changes.{inserted, removed, moved, focus_outside, with_body, with_focus, edited};
-ghost use Rattle.ax_dom.specs.Refusals.{MayInsert, MayMove, may_focus, edit_cause, is_too_long};
+ghost use Rattle.ax_dom.specs.Refusals.{MayInsert, MayMove, may_focus, edit_cause, is_too_long, has_wrong_runs};
 
 use super::{Dom, NO_FRAME};
 use crate::cell::{Cell, Slot};
@@ -97,6 +97,7 @@ impl Dom {
     fn amend(&mut self, alloc: Global, id: ObjId, e: &Edit) -> Result<(), NoMemory>
         requires known { IsTrue (has self.old id) }
         requires short { is_too_long e.now ≡ false }
+        requires runs { has_wrong_runs e.now (body self.old id) ≡ false }
         requires within { EditKeepsBounds e.now }
         ensures ok { OnOk result (self.new ≡ with_body self.old id (body_after e.now (body self.old id))) }
         ensures err { OnErr result (self.new ≡ self.old) }

@@ -2,8 +2,8 @@
 ghost use Rattle.std.specs.Prelude.{◌≡◌, ◌+◌, nat_eq, nat_lt, false};
 ghost use Rattle.std.specs.Option.{option_map_or};
 ghost use Rattle.ax_base.specs.Document.{has, body, depth, is_text};
+ghost use Rattle.ax_base.specs.Runs.{go_on, may_have_runs};
 ghost use Rattle.ax_dom.specs.Refusals.{is_taken, is_place, lacks_node, reuses_id, lacks_place, wants_element, wants_text, goes_too_deep, is_one_too_many, is_too_long, is_long_value, has_long_value, is_long_text, breaks_runs, length_of, may_focus, goes_into_itself, removes_root, edit_cause};
-ghost use Rattle.ax_dom.specs.Runs.{go_on, may_have_runs};
 
 use super::Dom;
 use crate::cause::EditCause;
