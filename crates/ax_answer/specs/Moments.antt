@@ -1,5 +1,5 @@
 -- What is answered and noticed at each moment.
-use Rattle.std.specs.Prelude.{ℕ, Bool, true, IsTrue, List, []}
+use Rattle.std.specs.Prelude.{ℕ, Bool, true, false, IsTrue, List, []}
 use Rattle.std.specs.List.{All}
 use Rattle.ax_base.specs.declared.notices.Notice.{Notice}
 use Rattle.ax_ask.specs.declared.requests.Request.{Request}
@@ -18,13 +18,13 @@ answer_at s k q = answer (tree_at s k) q
 unfoldable pub notices_of : Script → ℕ → ℕ → List Notice
 notices_of s t p = []
 
--- whether a line asks nothing, or what is answered
+-- whether a line asks nothing, or what is answered: notices are not answered yet
 abbrev pub is_answered_line : ClientLine → Bool
 is_answered_line (Ask q) = is_answered q
 is_answered_line (Again q) = is_answered q
 is_answered_line Hear = true
 is_answered_line (Await a) = true
-is_answered_line Notices = true
+is_answered_line Notices = false
 
 -- every line asks nothing, or what is answered
 abbrev pub AreAnswered : List ClientLine → Type 0

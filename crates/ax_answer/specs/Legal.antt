@@ -1,11 +1,12 @@
--- Which entries the client's lines may give.
+-- Which entries the lines of a client may give, and which transcripts a story may have.
 use Rattle.std.specs.Prelude.{◌≡◌, ℕ, ◌+◌, ◌≤◌, max, List, [], ◌∷◌, take}
 use Rattle.story_check.specs.declared.story.ClientLine.{ClientLine}
 use Rattle.story_check.specs.declared.story.ClientLine.TheVariants.{Ask, Again, Hear, Await, Notices}
-use Rattle.story_check.specs.Stories.{Script, cap}
+use Rattle.story_check.specs.Stories.{Script, flushes, cap}
 use Rattle.ax_ask.specs.declared.transcripts.Entry.{Entry}
+use Rattle.ax_ask.specs.declared.transcripts.Transcript.{Transcript}
 use Rattle.ax_ask.specs.declared.transcripts.EntryBody.TheVariants.{Reply, Await as AwaitBody, Hear as HearBody, Notices as NoticesBody}
-use Rattle.ax_world.specs.Moments.{answer_at, notices_of}
+use Rattle.ax_answer.specs.Moments.{answer_at, notices_of}
 
 -- where the client stands: its lines done, the moment of its tree, its last bell, and the last moment whose notices it printed
 pub record Place : Type 0 where
@@ -51,3 +52,7 @@ IsLegalSoFar s j es = AreLegal s outset (take j s.client) es
 -- the entries of all lines of the client
 abbrev pub IsLegal : Script → List Entry → Type 0
 IsLegal s es = AreLegal s outset s.client es
+
+-- the transcript of a whole run: all flushes of the page, and the entries of all lines of the client
+abbrev pub IsLegalTranscript : Script → Transcript → Type 0
+IsLegalTranscript s w = (w.flushes ≡ flushes s.page) × IsLegal s w.entries
