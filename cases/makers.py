@@ -3,7 +3,7 @@ import json
 import random
 
 from documents import Document
-from plays import BUILT_REQUESTS
+from plays import BUILT_REQUESTS, Refused, Story
 from trees import BLOCKS, CHECKED, COUNTED, LIVE_ROLES, NAMED_FROM_CONTENT, NAMELESS, RANGES, ROLES, SELECTED, Tree
 
 TEXTS = ("Save", "Hi", "one two", " lead", "trail ", "a  b\t", "\u00e9\u4e2d", '"q\\', "x\u0001\u000by", "\u00a0", "", " ", " \n\f\r")
@@ -275,3 +275,48 @@ class Maker:
             flushes += lines[-1] is not None and "flush" in lines[-1]
         lines += self.last_look(editor, flushes) if editor.chance(0.8) else []
         return [editor.one_of("", " \t\r") if line is None else json.dumps(line) for line in lines]
+
+
+class ThreadedMaker(Maker):
+    """Random stories for two threads: accepted ones, of which no side waits for ever, and whose moments differ."""
+
+    WEIGHTS = dict(edit=50, flush=40, ask=30, again=15, hear=12, **{"await": 8}, until=6, notices=8)
+
+    def threaded_line(self, editor, flushes, awaited):
+        """Lines in an order in which they can be done, so that no side waits for ever."""
+        kind = editor.random.choices(list(self.WEIGHTS), self.WEIGHTS.values())[0]
+        if kind == "edit":
+            return editor.edits()
+        if kind in ("ask", "again"):
+            return [{kind: self.request(editor)}]
+        if kind in ("flush", "hear", "notices"):
+            return [{kind: True}]
+        return [{kind: editor.random.randrange((flushes if kind == "await" else awaited) + 1)}]
+
+    def threaded_story(self, length):
+        editor, flushes, awaited = Editor(self.random.random()), 0, 0
+        lines = [edit for _ in editor.some(4, 8, 12) for edit in editor.edits()] + [{"start": 1}]
+        for _ in range(length):
+            lines += self.threaded_line(editor, flushes, awaited)
+            flushes += "flush" in lines[-1]
+            awaited = max(awaited, lines[-1].get("await", 0))
+        lines += [{"await": flushes}, {"notices": True}] if editor.chance(0.5) else []
+        return [json.dumps(line) for line in lines]
+
+    def accepted_story(self, length):
+        """The lines of a story of about that length, and the story."""
+        while True:
+            lines = self.threaded_story(length)
+            try:
+                story = Story(lines)
+            except Refused:
+                continue
+            if story.asks_what_is_built():
+                return lines, story
+
+    def turns(self, story):
+        """Turns for about all lines of a story, mostly some of one side after another."""
+        left, turns = len(story.page) + len(story.client), ""
+        while len(turns) < left:
+            turns += self.random.choice("PC") * self.random.choice((1, 1, 2, 3, 5, 10, left))
+        return turns
