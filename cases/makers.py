@@ -2,6 +2,7 @@
 import json
 import random
 
+import plays
 from documents import Document
 from plays import BUILT_REQUESTS, Refused, Story
 from trees import BLOCKS, CHECKED, COUNTED, LIVE_ROLES, NAMED_FROM_CONTENT, NAMELESS, RANGES, ROLES, SELECTED, Tree
@@ -38,7 +39,14 @@ USUAL = {"input": ("type", "type", "value", "id", "checked"), "img": ("alt", "ro
 OWN = [(CHECKED, ["aria-checked"]), (SELECTED, ["aria-selected"]), (("button",), ["aria-pressed"]), (NAMELESS, ["aria-label"]),
        (("heading", "row", "treeitem"), ["aria-level"]), (("textbox", "searchbox", "combobox"), ["value"]),
        (RANGES, ["value", "aria-valuenow", "aria-valuetext"]), (LIVE_ROLES, ["aria-live"])]
+TURNED = OWN + [(("button", "a", "option", "tab", "row", "treeitem", "combobox"), ["aria-expanded"]), (("checkbox", "radio"), ["checked"])]
 TOLD_APART = [role for roles, _ in OWN for role in roles] + ["generic", "none"]
+
+
+def own_names(table, tag, attrs):
+    """The attributes that the role or the tag has an eye on, as far as the table goes."""
+    words = attrs.get("role", "").lower().split() + [tag, attrs.get("type", "")]
+    return [name for roles, names in table for name in names if set(words) & set(roles)]
 
 
 class Words:
@@ -86,9 +94,7 @@ class Words:
         names = [name for name in USUAL.get(tag, ()) if self.chance(0.5)]
         names += [self.one_of(*NAMES) for _ in self.some(0, 0, 0, 1, 1, 2, 2, 3, 5)]
         attrs = {**{name: self.value(name) for name in names}, **given}
-        words = attrs.get("role", "").lower().split() + [tag, attrs.get("type", "")]
-        own = [name for roles, names in OWN for name in names if set(words) & set(roles)]
-        attrs.update({name: self.value(name) for name in own if self.chance(0.7)})
+        attrs.update({name: self.value(name) for name in own_names(OWN, tag, attrs) if self.chance(0.7)})
         return attrs
 
     def rect(self):
@@ -159,7 +165,7 @@ class Editor(Words):
         kinds = (self.insert, self.move, self.set, self.unset, self.runs, lambda: {"remove": self.id()},
                  lambda: {"text": self.text_node(), "to": self.text()}, lambda: {"frame": self.element(), "rect": self.rect()},
                  lambda: {"focus": self.one_of(0, self.id(), self.id(), self.id())})
-        return self.random.choices(kinds, (50, 10, 16, 5, 5, 3, 6, 4, 6))[0]()
+        return self.random.choices(kinds, (50, 10, 24, 8, 5, 3, 8, 4, 6))[0]()
 
     def accepted_edit(self):
         """Mostly an edit that the document takes, and does it then."""
@@ -219,11 +225,24 @@ class Editor(Words):
         inner = self.child(outer["insert"], "div", self.attrs("div", role=self.one_of(*LIVE_ROLES)))
         return [outer, inner, self.words(inner["insert"])]
 
+    def turned(self):
+        """A state or a value that an element may lose, get or change; where none has one, there is a new one."""
+        own = [(id, name) for id, node in self.document.nodes.items() if not node.is_text()
+               for name in own_names(TURNED, node.tag, node.attrs)]
+        if len(own) < 3:
+            return [self.new(self.one_of("input", "div"), {"role": self.one_of(*CHECKED, *SELECTED, *RANGES, "textbox", "button")})]
+        id, name = self.one_of(*own)
+        if self.chance(0.3) and name in self.document.nodes[id].attrs:
+            return [self.done({"unset": id, "name": name})]
+        return [self.done({"set": id, "name": name, "value": self.one_of("true", "false", "mixed", self.value(name))})]
+
     def edits(self):
         """One edit, or some that belong together."""
+        if self.chance(0.2):
+            return self.turned()
         if self.chance(0.88):
             return [self.accepted_edit()]
-        return self.one_of(*[self.named_from_content] * 4, *[self.referred] * 3, *[self.labelled] * 2, self.live)()
+        return self.one_of(*[self.named_from_content] * 4, *[self.referred] * 3, *[self.labelled] * 2, *[self.live] * 2)()
 
 
 class Maker:
@@ -241,7 +260,7 @@ class Maker:
 
     def line(self, editor, flushes):
         kind = editor.random.choices(("flush", "until", "ask", "await", "hear", "blank", "notices", "start"),
-                                     (110, 25, 150, 50, 20, 20, 2, 1))[0]
+                                     (110, 25, 150, 50, 20, 20, 30 if plays.NOTICES_ARE_BUILT else 2, 1))[0]
         return {
             "flush": lambda: {"flush": True},
             "until": lambda: {"until": editor.one_of(0, 0, max(flushes - 1, 0), flushes)},
@@ -260,7 +279,8 @@ class Maker:
         for words, count in [(("description", "value", "states", "level", "live", "frame"), 60), (BUILT_REQUESTS[2:], 20)]:
             told = [{"q": word, "id": id} for id in replies for word in words if count == 20 or replies[id][word] not in empty]
             asked += editor.random.sample(told, min(len(told), count))
-        return [{"flush": True}, {"await": flushes + 1}] + [{"again": request} for request in asked + [{"q": "focus"}]]
+        heard = [{"notices": True}] if plays.NOTICES_ARE_BUILT else []
+        return [{"flush": True}, {"await": flushes + 1}] + [{"again": request} for request in asked + [{"q": "focus"}]] + heard
 
     def story(self):
         editor, flushes, lines = Editor(self.random.random()), 0, []
