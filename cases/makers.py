@@ -234,12 +234,26 @@ class Editor(Words):
         id, name = self.one_of(*own)
         if self.chance(0.3) and name in self.document.nodes[id].attrs:
             return [self.done({"unset": id, "name": name})]
-        return [self.done({"set": id, "name": name, "value": self.one_of("true", "false", "mixed", self.value(name))})]
+        return [self.done({"set": id, "name": name, "value": self.one_of("true", "false", "mixed", "", self.value(name))})]
+
+    def nudged(self):
+        """A text with other white space, or the last child of a node before the first."""
+        texts = [(id, node.text) for id, node in self.document.nodes.items() if node.is_text()]
+        parents = [(id, node.children) for id, node in self.document.nodes.items() if len(node.children) > 1]
+        if parents and self.chance(0.5):
+            into, children = self.one_of(*parents)
+            return [self.done({"move": children[-1], "into": into, "before": children[0]})]
+        if not texts:
+            return [self.accepted_edit()]
+        id, text = self.one_of(*texts)
+        return [self.done({"text": id, "to": self.one_of(" ", "\n") + text})]
 
     def edits(self):
         """One edit, or some that belong together."""
         if self.chance(0.2):
             return self.turned()
+        if self.chance(0.06):
+            return self.nudged()
         if self.chance(0.88):
             return [self.accepted_edit()]
         return self.one_of(*[self.named_from_content] * 4, *[self.referred] * 3, *[self.labelled] * 2, *[self.live] * 2)()
