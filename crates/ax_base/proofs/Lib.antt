@@ -11,12 +11,14 @@ pub mod Filled
 pub mod IdParts
 pub mod Marked
 pub mod Repeats
+pub mod Rising
 pub mod Shapes
 pub mod Joins
 pub mod Reached
 pub mod KidsLaws
 pub mod Objects
 pub mod Rectangles
+pub mod TextRoles
 pub mod SaidLaws
 pub mod Quotes
 mod Tables

@@ -6,6 +6,7 @@ use Rattle.std.specs.List.Sorted.{IsStrictlyIncreasing}
 use Rattle.std.specs.Option.{option_map_or}
 use Rattle.ax_base.specs.Document.{Document, has, root, ids, body, is_text, children, parent, lineage_within, lineage, ancestors, depth, IsChild}
 use Rattle.ax_base.specs.Rects.{HasRectsWithin}
+use Rattle.ax_base.specs.Runs.{KeepsRuns}
 use Rattle.ax_base.specs.Texts.{IsFitting}
 use Rattle.ax_base.specs.Trees.{IsTree, HasNoRepeats}
 
@@ -40,8 +41,8 @@ module _ (d e : Document) (shape : HasShapeOf d e) where
   child_is : (n c : ℕ) → IsChild d n c → IsChild e n c
   child_is n c child = subst (λ xs. Contains xs c) (sym (shape.children_same n)) child
 
-  pub tree_same : ((n : ℕ) → IsFitting (body e n)) → ((n : ℕ) → HasRectsWithin (body e n)) → ((n : ℕ) → e.focus ≡ Some n → has e n ≡ true) → IsTree d → IsTree e
-  tree_same fit near focused t = record {
+  pub tree_same : ((n : ℕ) → IsFitting (body e n)) → ((n : ℕ) → KeepsRuns (body e n)) → ((n : ℕ) → HasRectsWithin (body e n)) → ((n : ℕ) → e.focus ≡ Some n → has e n ≡ true) → IsTree d → IsTree e
+  tree_same fit right near focused t = record {
     level = t.level;
     has_root = shape.has_same root ∙ t.has_root;
     root_level = t.root_level;
@@ -55,6 +56,7 @@ module _ (d e : Document) (shape : HasShapeOf d e) where
     bare = λ n text. shape.children_same n ∙ t.bare n (sym (shape.text_same n) ∙ text);
     rising = subst IsStrictlyIncreasing (sym shape.ids_same) t.rising;
     fits = fit;
+    runs = right;
     within = near;
     focused = focused;
   }

@@ -5,6 +5,7 @@ pub mod Attributes
 pub mod Recursion
 pub mod Document
 pub mod Texts
+pub mod Runs
 pub mod Trees
 pub mod Values
 pub mod Focusable

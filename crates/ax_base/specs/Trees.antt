@@ -3,13 +3,14 @@ use Rattle.std.specs.Prelude.{◌≡◌, ◌≢◌, ◌<◌, ◌≤◌, ℕ, suc
 use Rattle.std.specs.List.Sorted.{IsStrictlyIncreasing}
 use Rattle.ax_base.specs.Document.{Document, root, has, ids, body, is_text, children, IsChild}
 use Rattle.ax_base.specs.Rects.{HasRectsWithin}
+use Rattle.ax_base.specs.Runs.{KeepsRuns}
 use Rattle.ax_base.specs.Texts.{IsFitting}
 
 -- nothing stands at two places of a list
 abbrev pub HasNoRepeats : List ℕ → Type 0
 HasNoRepeats xs = (i j : ℕ) → i < length xs → j < length xs → get_or xs i 0 ≡ get_or xs j 0 → i ≡ j
 
--- Each node hangs on the root, in one place, at most 64 levels below it; texts have no children and are not too long; rectangles are within bounds; ids rise; the focused node is there.
+-- Each node hangs on the root, in one place, at most 64 levels below it; texts have no children, are not too long and have runs that they may have; rectangles are within bounds; ids rise; the focused node is there.
 pub record IsTree (d : Document) : Type 0 where
   -- how far a node is below the root
   pub level : ℕ → ℕ
@@ -27,6 +28,8 @@ pub record IsTree (d : Document) : Type 0 where
   pub rising : IsStrictlyIncreasing (ids d)
   -- no text is too long
   pub fits : (n : ℕ) → IsFitting (body d n)
+  -- the runs of each text go from its begin to its end
+  pub runs : (n : ℕ) → KeepsRuns (body d n)
   -- every rectangle is within bounds
   pub within : (n : ℕ) → HasRectsWithin (body d n)
   -- the focused node is there

@@ -88,19 +88,16 @@ impl Attrs {
     }
 
     /// Gives an attribute a value, in the place of the one that it has or at the end. At an error nothing changes.
-    pub fn set(&mut self, alloc: Global, name: &Text, value: Text) -> Result<(), NoMemory>
-        ensures ok { OnOk result (self.new ≡ with_value name.now value self.old) }
+    pub fn set(&mut self, name: Text, value: Text) -> Result<(), NoMemory>
+        ensures ok { OnOk result (self.new ≡ with_value name value self.old) }
         ensures err { OnErr result (self.new ≡ self.old) }
     {
-        match self.place_of(name) {
+        match self.place_of(&name) {
             Some(place) => {
                 self.items[place].value = value;
                 Ok(())
             }
-            None => self.push(Attr {
-                name: name.copy(alloc)?,
-                value,
-            }),
+            None => self.push(Attr { name, value }),
         }
     }
 

@@ -33,7 +33,7 @@ pub use notices::{Notice, NoticeKind, Notices};
 pub use pieces::first_token;
 pub use quote::push_quoted;
 pub use rect::{Rect, Run, contains_point, unite};
-pub use role::{Role, role_word};
+pub use role::{Role, all_roles_are_listed, role_word};
 pub use states::{Checked, Live, States};
 pub use steps::Steps;
 pub use text::{Text, cap512};

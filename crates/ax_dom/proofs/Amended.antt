@@ -10,6 +10,7 @@ use Rattle.ax_base.specs.declared.body.Body.{Body}
 use Rattle.ax_base.specs.declared.body.Body.TheVariants.{Element, Words}
 use Rattle.ax_base.specs.Document.{Document, Node, node, has, children, body, is_text}
 use Rattle.ax_base.specs.Rects.{HasRectsWithin}
+use Rattle.ax_base.specs.Runs.{KeepsRuns}
 use Rattle.ax_base.specs.Texts.{IsFitting}
 use Rattle.ax_base.proofs.Lookups.{finds, finds_same, found_is, lookup-set_value_at}
 use Rattle.ax_base.proofs.Shapes.{HasShapeOf, parent_same, depth_same, tree_same}
@@ -21,10 +22,11 @@ use Rattle.ax_dom.specs.Slots.{cell_of, slot_at, nodes_of, document_of, IsKept}
 use Rattle.ax_dom.specs.Bodies.{body_after, slot_after}
 use Rattle.ax_dom.specs.Bounds.{EditKeepsBounds}
 use Rattle.ax_dom.specs.Changes.{with_body}
-use Rattle.ax_dom.specs.Refusals.{is_too_long}
+use Rattle.ax_dom.specs.Refusals.{is_too_long, has_wrong_runs}
 use Rattle.ax_dom.proofs.Bounded.{body_within}
 use Rattle.ax_dom.proofs.Fitting.{text_fits}
 use Rattle.ax_dom.proofs.Kept.{has_is, children_found}
+use Rattle.ax_dom.proofs.RightRuns.{runs_after}
 use Rattle.ax_dom.proofs.Entries.{nodes_of-set_value, the_slot}
 
 -- no edit makes a text of an element, or an element of a text
@@ -105,7 +107,7 @@ module _ (d : Document) (n : ℕ) (b : Body) (there : has d n ≡ true) (kind : 
   unfolding shape_amended
   cell_apart q apart = λ i. record { id = q; parent = sym (parent_same d e shape_amended q) i; depth = sym (depth_same d e shape_amended q) i; body = sym (body_apart q apart) i }
 
-module _ (es : List (ℕ × Slot)) (focus : Option ℕ) (used : List ℕ) (kept : IsKept (document_of es focus used) es) (n : ℕ) (there : has (document_of es focus used) n ≡ true) (edit : Edit) (short : is_too_long edit ≡ false) (near : EditKeepsBounds edit)
+module _ (es : List (ℕ × Slot)) (focus : Option ℕ) (used : List ℕ) (kept : IsKept (document_of es focus used) es) (n : ℕ) (there : has (document_of es focus used) n ≡ true) (edit : Edit) (short : is_too_long edit ≡ false) (right : has_wrong_runs edit (body (document_of es focus used) n) ≡ false) (near : EditKeepsBounds edit)
     (fs : List (ℕ × Slot)) (changed : (s : Slot) → slot_at es n ≡ Some s → fs ≡ set_value (is_at (nat_cmp n)) es (slot_after edit s)) where
   abbrev d : Document
   d = document_of es focus used
@@ -156,7 +158,7 @@ module _ (es : List (ℕ × Slot)) (focus : Option ℕ) (used : List ℕ) (kept 
 
   kept_is : IsKept (document_of fs focus used) fs
   kept_is = subst (λ x. IsKept x fs) (sym document_is) (record {
-    tree = tree_same d after (shape_amended d n b there (kind_stays edit (body d n))) (each_is IsFitting (body_fits edit (body d n) short (kept.tree.fits n)) kept.tree.fits) (each_is HasRectsWithin (body_within edit (body d n) near (kept.tree.within n)) kept.tree.within) (λ q some. (shape_amended d n b there (kind_stays edit (body d n))).has_same q ∙ kept.tree.focused q some) kept.tree;
+    tree = tree_same d after (shape_amended d n b there (kind_stays edit (body d n))) (each_is IsFitting (body_fits edit (body d n) short (kept.tree.fits n)) kept.tree.fits) (each_is KeepsRuns (runs_after edit (body d n) right (kept.tree.runs n)) kept.tree.runs) (each_is HasRectsWithin (body_within edit (body d n) near (kept.tree.within n)) kept.tree.within) (λ q some. (shape_amended d n b there (kind_stays edit (body d n))).has_same q ∙ kept.tree.focused q some) kept.tree;
     cells = cells_are;
     marked = λ q has_q top. kept.marked q (sym ((shape_amended d n b there (kind_stays edit (body d n))).has_same q) ∙ has_q) top;
   })
@@ -166,12 +168,15 @@ module _ (es : List (ℕ × Slot)) (focus : Option ℕ) (used : List ℕ) (kept 
   pub amended_there : is_some (slot_at es n) ≡ true
   amended_there = has_is es focus used now n view ∙ there
 
-  module _ (edit : Edit) (short : is_too_long edit ≡ false) (near : EditKeepsBounds edit) (fs : List (ℕ × Slot)) (changed : (s : Slot) → slot_at es n ≡ Some s → fs ≡ set_value (is_at (nat_cmp n)) es (slot_after edit s)) where
+  module _ (edit : Edit) (short : is_too_long edit ≡ false) (right : has_wrong_runs edit (body now n) ≡ false) (near : EditKeepsBounds edit) (fs : List (ℕ × Slot)) (changed : (s : Slot) → slot_at es n ≡ Some s → fs ≡ set_value (is_at (nat_cmp n)) es (slot_after edit s)) where
     there_here : has (document_of es focus used) n ≡ true
     there_here = ap (λ d. has d n) view ∙ there
 
+    right_here : has_wrong_runs edit (body (document_of es focus used) n) ≡ false
+    right_here = ap (λ d. has_wrong_runs edit (body d n)) view ∙ right
+
     pub document_amended : document_of fs focus used ≡ with_body now n (body_after edit (body now n))
-    document_amended = document_is es focus used kept n there_here edit short near fs changed ∙ ap (λ d. with_body d n (body_after edit (body d n))) view
+    document_amended = document_is es focus used kept n there_here edit short right_here near fs changed ∙ ap (λ d. with_body d n (body_after edit (body d n))) view
 
     pub kept_amended : IsKept (document_of fs focus used) fs
-    kept_amended = kept_is es focus used kept n there_here edit short near fs changed
+    kept_amended = kept_is es focus used kept n there_here edit short right_here near fs changed

@@ -20,7 +20,7 @@ kept_focused es was focus used kept now view may =
     let there : may_focus d focus ≡ true = ap (λ x. may_focus x focus) view ∙ may in
     let shape = shape_focused d focus in
     record {
-      tree = tree_same d (with_focus d focus) shape kept.tree.fits kept.tree.within (focus_there d focus there) kept.tree;
+      tree = tree_same d (with_focus d focus) shape kept.tree.fits kept.tree.runs kept.tree.within (focus_there d focus there) kept.tree;
       cells = λ n s found. kept.cells n s found ∙ (λ i. record { id = n; parent = sym (parent_same d (with_focus d focus) shape n) i; depth = sym (depth_same d (with_focus d focus) shape n) i; body = (cell_of d n).body });
       marked = kept.marked;
     }

@@ -9,6 +9,7 @@ use Rattle.ax_base.specs.declared.body.Body.{Body}
 use Rattle.ax_base.specs.declared.body.Body.TheVariants.{Element, Words}
 use Rattle.ax_base.specs.Document.{Document, Node, has, root, children, body, is_text, IsChild}
 use Rattle.ax_base.specs.Rects.{HasRectsWithin}
+use Rattle.ax_base.specs.Runs.{KeepsRuns}
 use Rattle.ax_base.specs.Texts.{IsFitting}
 use Rattle.ax_base.specs.Trees.{IsTree}
 use Rattle.ax_base.proofs.Lookups.{finds, found_is}
@@ -51,6 +52,10 @@ module _ (b : Body) (element : is_text b ≡ false) (near : HasRectsWithin b) wh
   element_fits (Element tag attrs frame) is = tt
   element_fits (Words chars runs) is = absurd (false≢true (sym is))
 
+  element_runs : (x : Body) → is_text x ≡ false → KeepsRuns x
+  element_runs (Element tag attrs frame) is = tt
+  element_runs (Words chars runs) is = absurd (false≢true (sym is))
+
   -- what the root's body and nothing have
   each : (P : Body → Type 0) → P b → P (Words [] []) → (n : ℕ) → P (body d n)
   each P here nothing n = go (finds n 1)
@@ -74,6 +79,7 @@ module _ (b : Body) (element : is_text b ≡ false) (near : HasRectsWithin b) wh
     bare = λ n text. nothing_below n;
     rising = λ k low. absurd (omega arith);
     fits = each IsFitting (element_fits b element) nothing_fits;
+    runs = each KeepsRuns (element_runs b element) refl;
     within = each HasRectsWithin near no_runs_within;
     focused = λ n some. cc;
   }

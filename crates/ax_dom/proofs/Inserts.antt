@@ -12,6 +12,7 @@ use Rattle.ax_base.specs.declared.body.Body.{Body}
 use Rattle.ax_base.specs.declared.body.Body.TheVariants.{Words}
 use Rattle.ax_base.specs.Document.{Document, Node, node, has, root, children, parent, depth, body, is_text, ids, IsChild}
 use Rattle.ax_base.specs.Rects.{HasRectsWithin}
+use Rattle.ax_base.specs.Runs.{KeepsRuns}
 use Rattle.ax_base.specs.Texts.{IsFitting}
 use Rattle.ax_base.specs.Trees.{IsTree, HasNoRepeats}
 use Rattle.ax_base.proofs.Places.{has_children, parent-child, parent-root, depth-level}
@@ -22,7 +23,7 @@ use Rattle.ax_dom.specs.Places.{placed}
 use Rattle.ax_dom.specs.Changes.{with_children, inserted}
 use Rattle.ax_dom.proofs.Placed.{placed_cases, placed_keeps, placed_has, placed_once}
 
-module _ (d : Document) (t : IsTree d) (id into : ℕ) (before : Option ℕ) (b : Body) (new : has d id ≡ false) (old : has d into ≡ true) (low : t.level into ≤ 63) (element : is_text (body d into) ≡ false) (fit : IsFitting b) (near : HasRectsWithin b) where
+module _ (d : Document) (t : IsTree d) (id into : ℕ) (before : Option ℕ) (b : Body) (new : has d id ≡ false) (old : has d into ≡ true) (low : t.level into ≤ 63) (element : is_text (body d into) ≡ false) (fit : IsFitting b) (right : KeepsRuns b) (near : HasRectsWithin b) where
   abbrev e : Document
   e = inserted d id into before b
 
@@ -180,6 +181,7 @@ module _ (d : Document) (t : IsTree d) (id into : ℕ) (before : Option ℕ) (b 
     bare = bare_after;
     rising = rising_after;
     fits = each_after IsFitting fit t.fits;
+    runs = each_after KeepsRuns right t.runs;
     within = each_after HasRectsWithin near t.within;
     focused = λ n some. has_kept n (t.focused n some);
   }

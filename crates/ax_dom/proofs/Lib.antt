@@ -1,5 +1,7 @@
+pub mod LongTexts
 pub mod Fitting
 pub mod Bounded
+pub mod RightRuns
 pub mod Placed
 pub mod Kept
 pub mod Without

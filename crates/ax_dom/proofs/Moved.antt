@@ -11,6 +11,7 @@ use Rattle.std.proofs.lemmas.Map.Made.{lookup-map_values, keys_of-map_values}
 use Rattle.ax_base.specs.declared.body.Body.TheVariants.{Words}
 use Rattle.ax_base.specs.Document.{Document, Node, node, has, root, children, depth, body, is_text, ids, IsChild}
 use Rattle.ax_base.specs.Rects.{HasRectsWithin}
+use Rattle.ax_base.specs.Runs.{KeepsRuns}
 use Rattle.ax_base.specs.Texts.{IsFitting}
 use Rattle.ax_base.specs.Trees.{IsTree, HasNoRepeats}
 use Rattle.ax_base.proofs.Lookups.{finds, finds_same, found_is, lookup-set_value_at}
@@ -206,6 +207,7 @@ module _ (d : Document) (t : IsTree d) (n into : ℕ) (before : Option ℕ) (apa
     bare = bare_moved;
     rising = subst IsStrictlyIncreasing (sym ids_moved) t.rising;
     fits = λ q. subst IsFitting (sym (body_moved q)) (t.fits q);
+    runs = λ q. subst KeepsRuns (sym (body_moved q)) (t.runs q);
     within = λ q. subst HasRectsWithin (sym (body_moved q)) (t.within q);
     focused = λ f some. has_moved f ∙ t.focused f some;
   }

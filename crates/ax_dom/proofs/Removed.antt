@@ -16,6 +16,7 @@ use Rattle.ax_base.specs.declared.body.Body.TheVariants.{Words}
 use Rattle.ax_base.specs.declared.body.Body.{Body}
 use Rattle.ax_base.specs.Document.{Document, Node, node, has, root, children, body, is_text, ids, IsChild}
 use Rattle.ax_base.specs.Rects.{HasRectsWithin}
+use Rattle.ax_base.specs.Runs.{KeepsRuns}
 use Rattle.ax_base.specs.Texts.{IsFitting}
 use Rattle.ax_base.specs.Trees.{IsTree, HasNoRepeats}
 use Rattle.ax_base.proofs.Lookups.{found_is}
@@ -177,6 +178,7 @@ module _ (d : Document) (t : IsTree d) (n : ℕ) (apart : n ≢ root) where
     bare = bare_left;
     rising = rising_left;
     fits = each_left IsFitting nothing_fits t.fits;
+    runs = each_left KeepsRuns refl t.runs;
     within = each_left HasRectsWithin no_runs_within t.within;
     focused = λ f some. focused_left d.focus t.focused f some;
   }

@@ -5,6 +5,5 @@ pub mod Subtrees
 pub mod Rewrites
 pub mod Bodies
 pub mod Bounds
-pub mod Runs
 pub mod Changes
 pub mod Refusals

@@ -9,6 +9,7 @@ use Rattle.ax_base.specs.declared.body.Body.{Body}
 use Rattle.ax_base.specs.declared.body.Body.TheVariants.{Element, Words}
 use Rattle.ax_base.specs.Document.{Document, root, has, depth, body, children, lineage, is_text}
 use Rattle.ax_base.specs.Rects.{HasRectsWithin}
+use Rattle.ax_base.specs.Runs.{may_have_runs, KeepsRuns}
 use Rattle.ax_base.specs.Texts.{IsFitting}
 use Rattle.ax_dom.specs.declared.cause.EditCause.{EditCause}
 use Rattle.ax_dom.specs.declared.cause.EditCause.TheVariants.{NoNode, UsedId, BadPlace, NotElement, NotText, IntoItself, RootFixed, TooDeep, TooMany, BadRuns, TooLong, NoMemory}
@@ -16,7 +17,6 @@ use Rattle.ax_dom.specs.declared.edit.Edit.{Edit}
 use Rattle.ax_dom.specs.declared.edit.Edit.TheVariants.{InsertElement, InsertText, Remove, Move, Chars as NewChars, Set, Unset, SetRuns, Frame, Focus}
 use Rattle.ax_dom.specs.Used.{is_used}
 use Rattle.ax_dom.specs.Subtrees.{subtree}
-use Rattle.ax_dom.specs.Runs.{may_have_runs}
 
 -- no child to stand before is given, or it is a child of `into`
 abbrev pub is_place : Document → ℕ → Option ℕ → Bool
@@ -118,6 +118,11 @@ is_one_too_many d (InsertElement id into before tag attrs) = nat_le 65536 (lengt
 is_one_too_many d (InsertText id into before new) = nat_le 65536 (length d.used)
 is_one_too_many d _ = false
 
+-- the runs of an edit are not those that a node may have
+abbrev pub has_wrong_runs : Edit → Body → Bool
+has_wrong_runs (SetRuns id runs) b = not (may_have_runs (length_of b) runs)
+has_wrong_runs _ b = false
+
 -- the runs are not those that the text may have
 abbrev pub breaks_runs : Document → Edit → Bool
 breaks_runs d (SetRuns id runs) = not (may_have_runs (length_of (body d id)) runs)
@@ -166,6 +171,7 @@ pub record MayInsert (d : Document) (id into : ℕ) (before : Option ℕ) (b : B
   pub element : is_text (body d into) ≡ false
   pub low : depth d into < 64
   pub fits : IsFitting b
+  pub runs : KeepsRuns b
   pub within : HasRectsWithin b
 
 -- what a move that nothing refuses has

@@ -21,12 +21,15 @@ use Rattle.ax_base.specs.declared.rect.Run.{Run}
 use Rattle.ax_base.specs.Document.{Document, ids, root, body, lineage}
 use Rattle.ax_base.specs.Trees.{IsTree, HasNoRepeats}
 use Rattle.ax_base.specs.Rects.{IsWithinBounds, AreRunsWithin, HasRectsWithin}
+use Rattle.ax_base.specs.Roles.{role_of}
+use Rattle.ax_base.specs.Runs.{KeepsRuns}
 use Rattle.ax_base.specs.Texts.{IsFitting}
 use Rattle.ax_base.specs.Kids.{kids, objects}
 use Rattle.ax_base.proofs.Places.{find_none}
 use Rattle.ax_base.proofs.Lookups.{finds, found_is}
 use Rattle.ax_base.proofs.KidsLaws.{kids_deeper}
 use Rattle.ax_base.proofs.Rectangles.{frame_of_runs_within}
+use Rattle.ax_base.proofs.TextRoles.{element_no_text}
 use Rattle.ax_base.proofs.Objects.{find_one, kids_are_objects, kids_once, one_holder, root_is_object, objects_known, objects_shown, objects_hung}
 use Rattle.ax_record.specs.declared.record.Record.{Record}
 use Rattle.ax_record.specs.Tree.{record_at, has_object, kids_of, parent_of, IsKid}
@@ -66,7 +69,7 @@ list_any-filter p n (k ∷ ks) = go (p k) (finds n k) (p n) refl refl refl (list
     go false false c kept at here rest = rest
 
 -- whether something is found at a key
-is_some-lookup : {X : Type 0} (n : ℕ) (es : List (ℕ × X)) → list_any (finds n) (map (λ e. e.0) es) ≡ is_some (lookup (is_at (nat_cmp n)) es)
+pub is_some-lookup : {X : Type 0} (n : ℕ) (es : List (ℕ × X)) → list_any (finds n) (map (λ e. e.0) es) ≡ is_some (lookup (is_at (nat_cmp n)) es)
 is_some-lookup n [] = refl
 is_some-lookup n (e ∷ es) = go (finds n e.0) (is_some-lookup n es)
   where
@@ -83,9 +86,9 @@ find_passes p (x ∷ xs) = go (p x) refl (find_passes p xs)
     go true e rest = e
     go false e rest = rest
 
-fits : (r : Record) (b : Body) → IsFitting b → r.text ≡ chars_of b → r.runs ≡ runs_of b → HasFittingText r
-fits r (Words text runs) short is_text is_runs = subst (λ o. MatchOption o (r.runs ≡ []) (λ chars_in. length (chars chars_in) ≤ 65536)) (sym is_text) short
-fits r (Element tag attrs frame) short is_text is_runs = subst (λ o. MatchOption o (r.runs ≡ []) (λ chars_in. length (chars chars_in) ≤ 65536)) (sym is_text) is_runs
+fits : (r : Record) (at_root : Bool) (b : Body) → IsFitting b → KeepsRuns b → HasFittingText (record r { role = role_of at_root b; text = chars_of b; runs = runs_of b })
+fits r at_root (Words text runs) short right = (refl, short, right)
+fits r at_root (Element tag attrs frame) short right = (element_no_text at_root tag attrs frame, refl)
 
 bounded : (b : Body) → HasRectsWithin b → IsWithinBounds (frame_of b) × AreRunsWithin (runs_of b)
 bounded (Words text runs) within = (frame_of_runs_within runs within, within)
@@ -189,7 +192,7 @@ module _ (d : Document) (t : IsTree d) where
     parent = λ n k kid. parent_is k ∙ ap (λ b. cond b (holder d k) None) (is_one k (kids_are_objects d t n k (kid_is n k kid).0 (kid_is n k kid).1)) ∙ holder_is n k (kid_is n k kid).0 (kid_is n k kid).1;
     hung = λ n there top. elim (objects_hung d t n (object_is n (sym (has_is n) ∙ there))) [ inl is ↦ absurd (top (sym is)) | inr (p, one, kid) ↦ (p, kid_of p n one kid) ];
     focused = focus_held d.focus;
-    texts = λ n r found. subst HasFittingText (record_found n r found) (fits (record_of d n) (body d n) (t.fits n) refl refl);
+    texts = λ n r found. subst HasFittingText (record_found n r found) (fits (record_of d n) (nat_eq n root) (body d n) (t.fits n) (t.runs n));
     within = λ n r found. subst KeepsBounds (record_found n r found) (bounded (body d n) (t.within n));
   }
     where

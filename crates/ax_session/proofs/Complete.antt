@@ -3,8 +3,8 @@ use Rattle.std.proofs.Common.{◌≡◌, ℕ, List, Option, Some, None, refl, sy
 use Rattle.std.specs.Prelude.{String}
 use Rattle.std.specs.declared.alloc.Global.{Global}
 use Rattle.story_check.specs.Stories.{Script}
-use Rattle.ax_world.specs.Legal.{IsLegal}
-use Rattle.ax_world.specs.Machine.{played}
+use Rattle.ax_answer.specs.Legal.{IsLegalTranscript}
+use Rattle.ax_world.specs.Machine.{transcript_of}
 use Rattle.ax_session.specs.declared.words.Command.{Command}
 use Rattle.ax_session.specs.declared.words.Command.TheVariants.{Dump, Replay}
 use Rattle.ax_session.specs.declared.words.Status.{Status}
@@ -48,6 +48,6 @@ complete_from words mine left new reads reads' writes writes' taken input status
     answers command other status text (subst (λ c. MayAnswer c other status text) same (subst (λ i. MayAnswer mine i status text) (e ∙ read) h))
 
 -- what a command writes of an accepted story
-pub does : (command : Command) (input : List ℕ) (story : Script) (text : List ℕ) → Accepted input story → IsLegal story (played story).entries → text ≡ text_of command story → Does command input text
+pub does : (command : Command) (input : List ℕ) (story : Script) (text : List ℕ) → Accepted input story → IsLegalTranscript story (transcript_of story) → text ≡ text_of command story → Does command input text
 does Dump input story text a legal t = (story, a, t)
 does Replay input story text a legal t = (story, a, legal, t)

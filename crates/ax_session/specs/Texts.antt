@@ -14,7 +14,7 @@ use Rattle.ax_record.specs.Tree.{Tree, record_at, kids_of}
 use Rattle.ax_ask.specs.Transcripts.{end_line, transcript_text}
 use Rattle.story_check.specs.Stories.{Script, flushes}
 use Rattle.story_check.specs.Moments.{tree_at}
-use Rattle.ax_world.specs.Machine.{played}
+use Rattle.ax_world.specs.Machine.{transcript_of}
 use Rattle.ax_session.specs.declared.words.Command.{Command}
 use Rattle.ax_session.specs.declared.words.Command.TheVariants.{Dump, Replay}
 
@@ -45,7 +45,7 @@ dump_text s = lines_within (tree_at s (flushes s.page)) 128 root ++ end_line (fl
 
 -- what `replay` writes: the text of what the client was told, and the number of flushes
 unfoldable pub replay_text : Script → Chars
-replay_text s = transcript_text (record { entries = (played s).entries; flushes = flushes s.page })
+replay_text s = transcript_text (transcript_of s)
 
 -- what a command writes of a story
 abbrev pub text_of : Command → Script → Chars

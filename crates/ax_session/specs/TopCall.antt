@@ -1,12 +1,12 @@
 -- What the top call promises. Each command has one row in each of the first definitions; those after them are the same for all commands.
-use Rattle.std.specs.Prelude.{◌≡◌, ◌⊎◌, ℕ, ◌+◌, ◌^◌, List, Option, Some, String, take, IsSomeAnd}
+use Rattle.std.specs.Prelude.{◌≡◌, ◌⊎◌, ℕ, ◌+◌, ◌^◌, List, Option, Some, None, String, take, IsSomeAnd}
 use Rattle.std.specs.declared.alloc.Global.{Global}
 use Rattle.std.specs.Io.KnownBytes.{Appends}
 use Rattle.ax_edge.specs.Causes.{Rose}
 use Rattle.ax_edge.specs.Transfers.{TakesInput, AddsFront}
 use Rattle.story_check.specs.Stories.{Script}
-use Rattle.ax_world.specs.Legal.{IsLegal}
-use Rattle.ax_world.specs.Machine.{played}
+use Rattle.ax_answer.specs.Legal.{IsLegalTranscript}
+use Rattle.ax_world.specs.Machine.{transcript_of}
 use Rattle.ax_session.specs.declared.words.Command.{Command}
 use Rattle.ax_session.specs.declared.words.Command.TheVariants.{Dump, Replay}
 use Rattle.ax_session.specs.declared.words.Status.{Status}
@@ -21,7 +21,7 @@ use Rattle.ax_session.specs.Texts.{dump_text, replay_text}
 -- tree built afresh from the document after the edits flushed by its moment, and no moment falls.
 abbrev pub Does : Command → List ℕ → List ℕ → Type 0
 Does Dump input text = (story : Script) × Accepted input story × (text ≡ dump_text story)
-Does Replay input text = (story : Script) × Accepted input story × IsLegal story (played story).entries × (text ≡ replay_text story)
+Does Replay input text = (story : Script) × Accepted input story × IsLegalTranscript story (transcript_of story) × (text ≡ replay_text story)
 
 -- the input is one that the command does
 abbrev pub IsGood : Command → List ℕ → Type 0
@@ -81,10 +81,14 @@ WritesFront words left left' gone gone' = (status : Status) × (text : List ℕ)
 abbrev pub FailsToRead : List (String Global) → ℕ → ℕ → Type 0
 FailsToRead words reads reads' = (command : Command) × (command_of words ≡ Some command) × IsReader command × Rose reads reads'
 
+-- no read or write failed
+abbrev pub NoFault : ℕ → ℕ → ℕ → ℕ → Type 0
+NoFault reads reads' writes writes' = (reads' ≡ reads) × (writes' ≡ writes)
+
 -- what each status says
 abbrev pub StatusMeans : {I O : Type 0} → (I → Option (List ℕ)) → (I → ℕ) → (O → Option (List ℕ)) → (O → ℕ) → List (String Global) → I → I → O → O → Status → Type 0
-StatusMeans left reads gone writes words i i' o o' Done = WritesAnswer words (left i) (left i') (gone o) (gone o') Done
-StatusMeans left reads gone writes words i i' o o' Refused = WritesAnswer words (left i) (left i') (gone o) (gone o') Refused
+StatusMeans left reads gone writes words i i' o o' Done = WritesAnswer words (left i) (left i') (gone o) (gone o') Done × NoFault (reads i) (reads i') (writes o) (writes o')
+StatusMeans left reads gone writes words i i' o o' Refused = WritesAnswer words (left i) (left i') (gone o) (gone o') Refused × NoFault (reads i) (reads i') (writes o) (writes o')
 StatusMeans left reads gone writes words i i' o o' ReadFault = FailsToRead words (reads i) (reads i') × (o' ≡ o)
 StatusMeans left reads gone writes words i i' o o' WriteFault = Rose (writes o) (writes o') × WritesFront words (left i) (left i') (gone o) (gone o')
 StatusMeans left reads gone writes words i i' o o' NoMemory = o' ≡ o
@@ -101,3 +105,9 @@ Completes command input status = (IsGood command input → IsOrNoMemory status D
 abbrev pub IsComplete : List (String Global) → Option (List ℕ) → ℕ → ℕ → ℕ → ℕ → Status → Type 0
 IsComplete words left reads reads' writes writes' status =
     (command : Command) (input : List ℕ) → command_of words ≡ Some command → HasInput command left input → ¬ (Rose reads reads') → ¬ (Rose writes writes') → Completes command input status
+
+-- what a command does on one thread leaves the spawner as it was, and so do words that are no command
+abbrev pub LeavesSpawner : {S : Type 0} → Option Command → S → S → Type 0
+LeavesSpawner None old new = new ≡ old
+LeavesSpawner (Some Dump) old new = new ≡ old
+LeavesSpawner (Some Replay) old new = new ≡ old

@@ -1,7 +1,8 @@
 //! Which accepted stories are built today.
 ghost use Rattle.std.specs.Prelude.{◌≡◌};
 ghost use Rattle.ax_answer.specs.Answers.{is_answered};
-ghost use Rattle.ax_session.specs.Built.{is_built_line, is_built};
+ghost use Rattle.ax_answer.specs.Moments.{is_answered_line};
+ghost use Rattle.ax_session.specs.Built.{is_built};
 
 use ax_ask::Request;
 use story_check::{ClientLine, Story};
@@ -10,11 +11,12 @@ use story_check::{ClientLine, Story};
 pub fn is_built(story: &Story) -> bool
     ensures { result ≡ is_built story.now }
 {
-    story.client().iter().all(is_built_line)
+    story.client().iter().all(is_answered_line)
 }
 
-fn is_built_line(line: &ClientLine) -> bool
-    ensures { result ≡ is_built_line line.now }
+/// Whether a line asks nothing, or what is answered. Notices are not answered yet.
+fn is_answered_line(line: &ClientLine) -> bool
+    ensures { result ≡ is_answered_line line.now }
 {
     match line {
         ClientLine::Ask(request) => is_answered(request),
@@ -42,6 +44,14 @@ fn is_answered(request: &Request) -> bool
         | Request::Frame(_)
         | Request::Parent(_)
         | Request::Children(_, _) => true,
-        _ => false,
+        Request::Compare(_, _)
+        | Request::NextChar(_)
+        | Request::PrevChar(_)
+        | Request::NextWord(_)
+        | Request::LineAt(_)
+        | Request::TextOf(_, _)
+        | Request::BoundsOf(_, _)
+        | Request::Search(_)
+        | Request::Hit(_, _) => false,
     }
 }

@@ -9,6 +9,8 @@ mod story;
 mod top;
 mod words;
 
+pub use ax_world::replay;
+pub use dump::dump;
 pub use story::{AcceptFail, Cause, Refusal};
 pub use top::{axcore, still_command};
 pub use words::{Command, Status, command_of};

@@ -3,9 +3,9 @@ ghost use Rattle.std.specs.Prelude.{◌≡◌, IfOk};
 ghost use Rattle.ax_session.specs.Story.{IsReady};
 ghost use Rattle.ax_session.specs.Texts.{replay_text};
 
+use crate::replay;
 use ax_ask::print_transcript;
 use ax_base::{NoMemory, Text};
-use ax_world::replay;
 use std::alloc::Global;
 use story_check::Story;
 

@@ -1,18 +1,17 @@
 //! The top call: from words and bytes to a status and bytes.
-ghost use Rattle.std.specs.Prelude.{◌≡◌, ◌↔◌, None, IfOk, IsErrOf};
+ghost use Rattle.std.specs.Prelude.{◌≡◌, ◌↔◌, None, IfOk, OnOk, IsErrOf};
 ghost use Rattle.ax_edge.specs.Causes.{Rose};
-ghost use Rattle.ax_world.specs.Legal.{IsLegal};
-ghost use Rattle.ax_world.specs.Machine.{played};
+ghost use Rattle.ax_answer.specs.Legal.{IsLegalTranscript};
+ghost use Rattle.ax_world.specs.Machine.{transcript_of};
 ghost use Rattle.ax_session.specs.Command.{command_of};
 ghost use Rattle.ax_session.specs.Story.{IsReady};
 ghost use Rattle.ax_session.specs.Texts.{text_of};
-ghost use Rattle.ax_session.specs.TopCall.{IsReader, TakesFor, MayAnswer, StatusMeans, IsComplete};
+ghost use Rattle.ax_session.specs.TopCall.{IsReader, TakesFor, MayAnswer, StatusMeans, IsComplete, LeavesSpawner};
 
-use crate::dump::dump;
 use crate::refusals::refusal_line;
 use crate::replay::replay_text;
 use crate::story::accept;
-use crate::{AcceptFail, Command, Status, command_of};
+use crate::{AcceptFail, Command, Status, command_of, dump};
 use ax_base::{NoMemory, Text};
 use ax_edge::{Gate, ReadError, Sink, Source, Spawner, read_input, write_whole};
 use ax_world::playing_ends;
@@ -38,6 +37,7 @@ pub fn axcore<R: Threads + Wait + Sync, I: Source, O: Sink, G: Gate + Sync, S: S
     ensures means { StatusMeans I.left I.faults O.gone O.faults words.now source.old source.new sink.old sink.new result }
     ensures complete { IsComplete words.now (I.left source.old) (I.faults source.old) (I.faults source.new)
         (O.faults sink.old) (O.faults sink.new) result }
+    ensures spawner { LeavesSpawner (command_of words.now) _spawner.old _spawner.new }
 {
     still_command(alloc, words, source, sink)
 }
@@ -82,6 +82,7 @@ fn input_of<I: Source>(
     source: &mut I,
 ) -> Result<Vec<u8>, ReadError>
     ensures input { IfOk result (λ input. TakesFor command (I.left source.old) (I.left source.new) input.items) }
+    ensures kept { OnOk result (I.faults source.new ≡ I.faults source.old) }
     ensures failed { IsErrOf result ReadError.Failed → IsReader command × Rose (I.faults source.old) (I.faults source.new) }
 {
     match command {
@@ -117,7 +118,7 @@ fn reply_to(alloc: Global, command: Command, input: &[u8]) -> Result<Reply, NoMe
 fn text_of(alloc: Global, command: Command, story: &Story) -> Result<Text, NoMemory>
     requires { IsReady story.now }
     ensures text { IfOk result (λ text. text ≡ text_of command story.now) }
-    ensures legal { IsLegal story.now (played story.now).entries }
+    ensures legal { IsLegalTranscript story.now (transcript_of story.now) }
 {
     playing_ends();
     match command {

@@ -7,7 +7,7 @@ use Rattle.story_check.specs.declared.story.ClientLine.TheVariants.{Await, Notic
 use Rattle.story_check.specs.Stories.{Script}
 use Rattle.ax_ask.specs.declared.transcripts.EntryBody.TheVariants.{Await as AwaitBody, Notices as NoticesBody}
 use Rattle.ax_base.specs.declared.notices.Notice.{Notice}
-use Rattle.ax_world.specs.Moments.{notices_of}
+use Rattle.ax_answer.specs.Moments.{notices_of}
 use Rattle.ax_world.specs.declared.turns.Turn.TheVariants.{Did, Waiting}
 use Rattle.ax_world.specs.Machine.{client_step, printed, did, waits}
 use Rattle.ax_world.specs.Worlds.{Play, Gives}

@@ -18,7 +18,7 @@ use Rattle.ax_ask.specs.declared.transcripts.Entry.{Entry}
 use Rattle.ax_ask.specs.declared.requests.Request.{Request}
 use Rattle.ax_ask.specs.declared.replies.Reply.{Reply}
 use Rattle.ax_answer.specs.Answers.{answer}
-use Rattle.ax_world.specs.Moments.{AreAnswered, is_answered_line, answer_at}
+use Rattle.ax_answer.specs.Moments.{AreAnswered, is_answered_line, answer_at}
 use Rattle.ax_world.specs.Machine.{State, start}
 use Rattle.ax_world.specs.Worlds.{IsKept}
 

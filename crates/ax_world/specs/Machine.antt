@@ -6,13 +6,14 @@ use Rattle.story_check.specs.declared.story.PageLine.{PageLine}
 use Rattle.story_check.specs.declared.story.PageLine.TheVariants.{Change, Flush, Until}
 use Rattle.story_check.specs.declared.story.ClientLine.{ClientLine}
 use Rattle.story_check.specs.declared.story.ClientLine.TheVariants.{Ask, Again, Hear, Await, Notices}
-use Rattle.story_check.specs.Stories.{Script}
+use Rattle.story_check.specs.Stories.{Script, flushes}
 use Rattle.ax_ask.specs.declared.transcripts.Entry.{Entry}
+use Rattle.ax_ask.specs.declared.transcripts.Transcript.{Transcript}
 use Rattle.ax_ask.specs.declared.transcripts.EntryBody.{EntryBody}
 use Rattle.ax_ask.specs.declared.transcripts.EntryBody.TheVariants.{Reply, Await as AwaitBody, Hear as HearBody, Notices as NoticesBody}
 use Rattle.ax_world.specs.declared.turns.Turn.{Turn}
 use Rattle.ax_world.specs.declared.turns.Turn.TheVariants.{Did, Waiting, Done}
-use Rattle.ax_world.specs.Moments.{answer_at, notices_of}
+use Rattle.ax_answer.specs.Moments.{answer_at, notices_of}
 
 -- lines done by each side, what is published and taken, the last bell, the last moment noticed, and the entries
 pub record State : Type 0 where
@@ -86,3 +87,7 @@ lines_done c = c.page_done + c.client_done
 -- the turns of the story, and then as many alternate turns as can be of use
 abbrev pub played : Script → State
 played s = after_turns s (s.turns ++ alternate (length s.page + length s.client)) start
+
+-- the transcript of the story that is played: its entries, and the number of flushes
+abbrev pub transcript_of : Script → Transcript
+transcript_of s = record { entries = (played s).entries; flushes = flushes s.page }

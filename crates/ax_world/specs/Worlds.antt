@@ -6,7 +6,7 @@ use Rattle.ax_record.specs.Tree.{Tree}
 use Rattle.story_check.specs.Stories.{Script, flushes}
 use Rattle.story_check.specs.Moments.{document_at, after_flushes, tree_at, AreLinesAccepted}
 use Rattle.ax_world.specs.declared.turns.Turn.{Turn}
-use Rattle.ax_world.specs.Moments.{AreAnswered}
+use Rattle.ax_answer.specs.Moments.{AreAnswered}
 use Rattle.ax_world.specs.Machine.{State, Step}
 
 -- the machine, and the story that it was made for

@@ -5,12 +5,13 @@ ghost use Rattle.story_check.specs.Stories.{Script, flushes, stuck};
 ghost use Rattle.story_check.specs.Moments.{IsAccepted};
 ghost use Rattle.ax_answer.specs.Answers.{is_answered};
 ghost use Rattle.ax_ask.specs.declared.transcripts.EntryBody.TheVariants.{Reply as ReplyBody};
-ghost use Rattle.ax_world.specs.Moments.{answer_at, AreAnswered, notices_of};
-ghost use Rattle.ax_world.specs.Machine.{start, step, page_step, client_step, printed, IsOver, played};
+ghost use Rattle.ax_answer.specs.Moments.{answer_at, AreAnswered, notices_of};
+ghost use Rattle.ax_answer.specs.Legal.{IsLegalTranscript};
+ghost use Rattle.ax_world.specs.Machine.{start, step, page_step, client_step, printed, IsOver, transcript_of};
 ghost use Rattle.ax_world.specs.Worlds.{Gives};
 
-use crate::Turn;
 use crate::page::tree_of;
+use crate::{Turn, playing_ends};
 use ax_answer::answer;
 use ax_ask::{Entries, Entry, EntryBody, Reply, Request, Transcript};
 use ax_base::{Moment, NoMemory, Notices, Who};
@@ -266,7 +267,7 @@ impl World {
 }
 
 /// No notices are told yet.
-#[tactic(auto, unfolding(crate::specs::Moments::notices_of))]
+#[tactic(auto, unfolding(ax_answer::specs::Moments::notices_of))]
 fn no_notices(alloc: Global) -> Notices
     ensures { (s : Script) (t p : ℕ) → result ≡ notices_of s t p }
 {
@@ -274,14 +275,15 @@ fn no_notices(alloc: Global) -> Notices
 }
 
 /// Plays a story that is not stuck: its turns, and then alternate turns until both sides are done. All its edits are
-/// accepted, and all its requests answered. The only error is want of memory.
+/// accepted, and all its requests answered. Its transcript is legal. The only error is want of memory.
 pub fn replay(alloc: Global, story: &Story) -> Result<Transcript, NoMemory>
     requires free { stuck story.now ≡ false }
     requires accepted { IsAccepted story.now }
     requires answered { AreAnswered story.now.client }
-    ensures entries { IfOk result (λ t. t.entries ≡ (played story.now).entries) }
-    ensures flushes { IfOk result (λ t. t.flushes ≡ flushes story.now.page) }
+    ensures value { IfOk result (λ t. t ≡ transcript_of story.now) }
+    ensures legal { IfOk result (λ t. IsLegalTranscript story.now t) }
 {
+    playing_ends();
     let mut world = World::new(alloc, story)?;
     for who in story.turns() {
         let (next, _) = world.turn(alloc, story, *who)?;

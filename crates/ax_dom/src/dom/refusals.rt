@@ -2,8 +2,8 @@
 ghost use Rattle.std.specs.Prelude.{◌≡◌, ◌+◌, nat_eq, nat_lt, false};
 ghost use Rattle.std.specs.Option.{option_map_or};
 ghost use Rattle.ax_base.specs.Document.{has, body, depth, is_text};
+ghost use Rattle.ax_base.specs.Runs.{go_on, may_have_runs};
 ghost use Rattle.ax_dom.specs.Refusals.{is_taken, is_place, lacks_node, reuses_id, lacks_place, wants_element, wants_text, goes_too_deep, is_one_too_many, is_too_long, is_long_value, has_long_value, is_long_text, breaks_runs, length_of, may_focus, goes_into_itself, removes_root, edit_cause};
-ghost use Rattle.ax_dom.specs.Runs.{go_on, may_have_runs};
 
 use super::Dom;
 use crate::cause::EditCause;
@@ -11,8 +11,8 @@ use crate::edit::Edit;
 use ax_base::{Attrs, Body, ObjId, Run, Text};
 
 impl Dom {
-    /// Why an edit is refused, if it is.
-    pub(super) fn edit_cause(&self, e: &Edit) -> Option<EditCause>
+    /// Why an edit is refused: the first cause that holds, or `None` exactly where none does. It is never want of memory.
+    pub fn cause_of(&self, e: &Edit) -> Option<EditCause>
         ensures { result ≡ edit_cause self.now e.now }
     {
         if self.lacks_node(e) {
@@ -285,7 +285,17 @@ fn is_long_value(value: &Text) -> bool
 fn is_long_text(chars: &Text) -> bool
     ensures { result ≡ is_long_text chars.now }
 {
-    chars.count() > 65536
+    is_long(chars.as_str())
+}
+
+/// Whether these are more than 65,536 characters. They are counted only where there are more bytes than that.
+fn is_long(text: &str) -> bool
+    ensures { result ≡ is_long_text text.now }
+{
+    if text.len() <= 65536 {
+        return false;
+    }
+    text.chars().count() > 65536
 }
 
 /// How many characters a text has.

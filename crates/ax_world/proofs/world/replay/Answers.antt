@@ -1,5 +1,7 @@
-use Rattle.std.proofs.Common.{◌+◌, refl, ap, ◌∙◌}
-use Rattle.ax_world.specs.Machine.{State}
+use Rattle.std.proofs.Common.{◌≡◌, ◌+◌, refl, sym, ap, subst, ◌∙◌}
+use Rattle.story_check.specs.Stories.{Script, flushes}
+use Rattle.ax_answer.specs.Legal.{IsLegalTranscript}
+use Rattle.ax_world.specs.Machine.{State, transcript_of}
 use Rattle.ax_world.specs.Worlds.{Play}
 use Rattle.ax_world.proofs.Rounds.{step_more, all_turns, round_more, round_falls, round_ends}
 use Rattle.ax_world.proofs.world.replay.Goals as goal
@@ -25,5 +27,10 @@ rounds-preserved c = record {
   state = (c.rounds.invariant.state.0 + 1, round_more _ c.args.story.now.turns c.rounds.invariant.state.0 _ _ _ c.rounds.invariant.state.1 (ap (λ (w : Play). w.state) c.in_ok-after_page.ensures.0) (ap (λ (w : Play). w.state) c.in_ok-after_client.ensures.0));
 }
 
-pub returns-clause-entries : goal.returns-clause-entries
-returns-clause-entries c = c.into_transcript.ensures.entries ∙ ap (λ (x : State). x.entries) (round_ends c.args.story.now c.rounds.invariant.state.0 c.rounds.world.state c.requires.free c.rounds.invariant.state.1 (c.rounds-test.ensures.0 refl))
+pub returns : goal.returns
+returns c =
+    let over = round_ends c.args.story.now c.rounds.invariant.state.0 c.rounds.world.state c.requires.free c.rounds.invariant.state.1 (c.rounds-test.ensures.0 refl) in
+    let entries = c.into_transcript.ensures.entries ∙ ap (λ (x : State). x.entries) over in
+    let count = c.into_transcript.ensures.flushes ∙ ap (λ (s : Script). flushes s.page) c.rounds.invariant.story in
+    let is : c.into_transcript.result ≡ transcript_of c.args.story.now = λ i. record { entries = entries i; flushes = count i } in
+    record { value = is; legal = subst (IsLegalTranscript c.args.story.now) (sym is) (c.playing_ends.ensures.legal c.args.story.now c.requires.free) }

@@ -1,5 +1,5 @@
 use Rattle.std.proofs.Common.{◌≡◌, drop}
-use Rattle.ax_dom.specs.Runs.{go_on}
+use Rattle.ax_base.specs.Runs.{go_on}
 use Rattle.ax_dom.proofs.dom.refusals.go_on.Given as goal
 
 -- the runs so far are right, and the others have to go on from the last of them

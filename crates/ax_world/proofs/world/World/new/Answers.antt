@@ -2,7 +2,7 @@ use Rattle.std.proofs.Common.{sym, subst, ap, ◌∙◌}
 use Rattle.ax_dom.specs.Changes.{new_document}
 use Rattle.story_check.specs.Stories.{Script, flushes}
 use Rattle.story_check.specs.Moments.{after_edits, AreLinesAccepted}
-use Rattle.ax_world.specs.Moments.{AreAnswered}
+use Rattle.ax_answer.specs.Moments.{AreAnswered}
 use Rattle.ax_world.proofs.Kept.{base_is, kept_start}
 use Rattle.ax_world.proofs.world.World.new.Goals as goal
 

@@ -1,5 +1,5 @@
 use Rattle.std.proofs.Common.{◌≡◌, IfOk, subst}
-use Rattle.ax_world.specs.Moments.{answer_at}
+use Rattle.ax_answer.specs.Moments.{answer_at}
 use Rattle.ax_world.specs.Worlds.{Play}
 use Rattle.ax_world.proofs.Kept.{reply_from_tree}
 use Rattle.ax_world.proofs.world.World.reply.Goals as goal
