@@ -19,7 +19,7 @@ pub use acceptance::{accept, accept_last};
 pub use documents::{base_dom, change, last_dom};
 pub use last::LastMoment;
 pub use refusals::{AcceptFail, Cause, Refusal};
-pub use story::{ClientLine, PageLine, Story, close};
+pub use story::{ClientLine, PageLine, Story};
 pub use waits::stuck;
 
 /// More takes let the page publish no less, and never more than all its flushes.
