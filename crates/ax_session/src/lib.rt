@@ -2,15 +2,15 @@
 #![tactic(auto)]
 
 mod built;
-mod dump;
+mod play_text;
 mod refusals;
-mod replay;
 mod story;
 mod top;
+mod tree_text;
 mod words;
 
 pub use ax_world::replay;
-pub use dump::dump;
 pub use story::{AcceptFail, Cause, Refusal};
 pub use top::{axcore, still_command};
+pub use tree_text::dump;
 pub use words::{Command, Status, command_of};

@@ -8,8 +8,8 @@ ghost use Rattle.ax_session.specs.Story.{IsReady};
 ghost use Rattle.ax_session.specs.Texts.{text_of};
 ghost use Rattle.ax_session.specs.TopCall.{IsReader, TakesFor, MayAnswer, StatusMeans, IsComplete, LeavesSpawner};
 
+use crate::play_text::replay_text;
 use crate::refusals::refusal_line;
-use crate::replay::replay_text;
 use crate::story::accept;
 use crate::{AcceptFail, Command, Status, command_of, dump};
 use ax_base::{NoMemory, Text};

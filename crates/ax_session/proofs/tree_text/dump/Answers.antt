@@ -1,6 +1,6 @@
 use Rattle.std.proofs.Common.{◌∙◌, string_bytes}
 use Rattle.ax_session.proofs.Lines.{whole_text}
-use Rattle.ax_session.proofs.dump.dump.Goals as goal
+use Rattle.ax_session.proofs.tree_text.dump.Goals as goal
 
 pub returns : goal.returns
 returns c =

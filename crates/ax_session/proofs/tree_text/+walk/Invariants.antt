@@ -1,7 +1,7 @@
 use Rattle.std.proofs.Common.{◌≡◌, ◌+◌, ◌*◌, ◌++◌, take, string_bytes}
 use Rattle.std.specs.List.{flat_map}
 use Rattle.ax_session.specs.Texts.{lines_within}
-use Rattle.ax_session.proofs.dump.+walk.Given as goal
+use Rattle.ax_session.proofs.tree_text.+walk.Given as goal
 
 abbrev pub decreases-push_object : goal.decreases-push_object
 decreases-push_object l = 2 * l.levels

@@ -1,7 +1,7 @@
 use Rattle.std.proofs.Common.{string_bytes, arith}
 use Rattle.std.proofs.lemmas.Result.{on_ok_weaker}
 use Rattle.ax_session.proofs.Lines.{none_there, alone, with_kids}
-use Rattle.ax_session.proofs.dump.+walk.Goals as goal
+use Rattle.ax_session.proofs.tree_text.+walk.Goals as goal
 
 pub push_object-returns-in_default : goal.push_object-returns-in_default
 push_object-returns-in_default t c = none_there c.args.tree.now c.args.levels c.args.id (string_bytes c.args.out.now) c.in_default.ensures.value
