@@ -13,7 +13,7 @@ use Rattle.ax_session.specs.declared.story.Refusal.{Refusal}
 use Rattle.ax_session.specs.Command.{command_of}
 use Rattle.ax_session.specs.Story.{Accepted}
 use Rattle.ax_session.specs.Texts.{text_of}
-use Rattle.ax_session.specs.TopCall.{Does, IsGood, Refuses, MayAnswer, Completes, IsComplete, TakesFor, HasInput}
+use Rattle.ax_session.specs.TopCall.{Does, IsGood, Refuses, MayAnswer, Completes, IsComplete, TakesFor, HasInput, LeavesSpawner}
 
 -- no input is both done and refused
 good_apart : (command : Command) (input : List ℕ) (refusal : Refusal) → IsGood command input → Refuses command input refusal → ⊥
@@ -51,3 +51,9 @@ complete_from words mine left new reads reads' writes writes' taken input status
 pub does : (command : Command) (input : List ℕ) (story : Script) (text : List ℕ) → Accepted input story → IsLegalTranscript story (transcript_of story) → text ≡ text_of command story → Does command input text
 does Dump input story text a legal t = (story, a, t)
 does Replay input story text a legal t = (story, a, legal, t)
+
+-- a spawner that nobody used
+pub left_alone : {S : Type 0} (command : Option Command) (spawner : S) → LeavesSpawner command spawner spawner
+left_alone None spawner = refl
+left_alone (Some Dump) spawner = refl
+left_alone (Some Replay) spawner = refl
