@@ -7,7 +7,7 @@ ghost use Rattle.ax_answer.specs.Answers.{is_answered};
 ghost use Rattle.ax_ask.specs.declared.transcripts.EntryBody.TheVariants.{Reply as ReplyBody, Notices as NoticesBody};
 ghost use Rattle.ax_answer.specs.Moments.{answer_at, AreAnswered, notices_of};
 ghost use Rattle.ax_answer.specs.Legal.{IsLegalTranscript};
-ghost use Rattle.ax_world.specs.Machine.{start, step, page_step, client_step, printed, IsOver, transcript_of};
+ghost use Rattle.ax_world.specs.Machine.{start, step, page_step, client_step, printed, IsOver, IsReached, InRounds, transcript_of};
 ghost use Rattle.ax_world.specs.Worlds.{Gives};
 
 use crate::{Turn, playing_ends};
@@ -309,10 +309,35 @@ pub fn replay(alloc: Global, story: &Story) -> Result<Transcript, NoMemory>
         let (next, _) = world.turn(alloc, story, *who)?;
         world = next;
     }
+    Ok(in_rounds(alloc, story, world)?.into_transcript())
+}
+
+/// Plays a story that is not stuck in alternate turns, the page first, and without its turn list: its transcript is legal, as
+/// that of every order of turns. All its edits are accepted, and all its requests answered. The only error is want of memory.
+pub fn play_in_turns(alloc: Global, story: &Story) -> Result<Transcript, NoMemory>
+    requires free { stuck story.now ≡ false }
+    requires accepted { IsAccepted story.now }
+    requires answered { AreAnswered story.now.client }
+    ensures { IfOk result (λ t. IsLegalTranscript story.now t) }
+{
+    let world = World::new(alloc, story)?;
+    Ok(in_rounds(alloc, story, world)?.into_transcript())
+}
+
+/// Plays on in alternate turns, the page first, until both sides are done.
+fn in_rounds(alloc: Global, story: &Story, world: World) -> Result<World, NoMemory>
+    requires free { stuck story.now ≡ false }
+    requires story { world.story ≡ story.now }
+    requires state { IsReached story.now world.state }
+    ensures story { IfOk result (λ w. w.story ≡ story.now) }
+    ensures rounds { IfOk result (λ w. InRounds story.now world.state w.state) }
+    ensures over { IfOk result (λ w. IsOver story.now w.state) }
+{
+    let mut world = world;
     'rounds: while !world.is_over(story) {
         let (after_page, _) = world.turn(alloc, story, Who::Page)?;
         let (after_client, _) = after_page.turn(alloc, story, Who::Client)?;
         world = after_client;
     }
-    Ok(world.into_transcript())
+    Ok(world)
 }
