@@ -77,6 +77,14 @@ abbrev pub alternate : ℕ → List Who
 alternate zero = []
 alternate (suc n) = Page ∷ Client ∷ alternate n
 
+-- some turns lead to this state
+abbrev pub IsReached : Script → State → Type 0
+IsReached s c = (turns : List Who) × (c ≡ after_turns s turns start)
+
+-- so many alternate turns lead from the first state to the second, whatever turns led to the first
+abbrev pub InRounds : Script → State → State → Type 0
+InRounds s c d = (n : ℕ) × ((turns : List Who) → c ≡ after_turns s turns start → d ≡ after_turns s (turns ++ alternate n) start)
+
 -- no side has a line left
 abbrev pub IsOver : Script → State → Type 0
 IsOver s c = (c.page_done ≡ length s.page) × (c.client_done ≡ length s.client)

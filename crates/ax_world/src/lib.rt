@@ -7,15 +7,13 @@ ghost use Rattle.ax_base.specs.declared.ids.Who.{Who};
 ghost use Rattle.ax_answer.specs.Legal.{IsLegalSoFar, IsLegalTranscript};
 ghost use Rattle.ax_world.specs.Machine.{start, after_turns, alternate, lines_done, IsOver, played, transcript_of};
 
-mod page;
 #[cfg(test)]
 mod tests;
 mod turns;
 mod world;
 
-pub use page::tree_of;
 pub use turns::Turn;
-pub use world::{World, replay};
+pub use world::{World, play_in_turns, replay};
 
 /// After every list of turns the page has published no more than it may, and the client's entries are legal.
 ///

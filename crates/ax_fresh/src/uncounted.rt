@@ -1,16 +1,16 @@
-//! The tree of the page's document.
+//! The tree of a document, for a caller that counts no reads.
 ghost use Rattle.std.specs.Prelude.{◌≡◌, ◌<◌, IfOk};
 ghost use Rattle.ax_record.specs.Records.{tree};
 
+use crate::build;
 use ax_base::{NoMemory, Steps};
 use ax_dom::Dom;
-use ax_fresh::build;
 use ax_record::FreshTree;
 use std::alloc::Global;
 use std::marker::Brand;
 use std::sync::ledger::{Blank, Ledger};
 
-/// The tree of a document, built whole. The only error is want of memory.
+/// The tree of a document, built whole, as `build` does on a count of its own. The only error is want of memory.
 pub fn tree_of(alloc: Global, document: &Dom) -> Result<FreshTree, NoMemory>
     ensures { IfOk result (λ t. t ≡ tree document.now) }
 {
