@@ -352,6 +352,19 @@ class ThreadedMaker(Maker):
         lines += [{"await": flushes}, {"notices": True}] if editor.chance(0.5) else []
         return [json.dumps(line) for line in lines]
 
+    def counting_story(self, length):
+        """A long story of one button, whose name is the next moment's number, so that both threads are at work for long."""
+        lines, flushes, awaited = [{"insert": 2, "into": 1, "tag": "button", "attrs": {"aria-label": "0"}}, {"start": 1}], 0, 0
+        name, said = {"q": "name", "id": 2}, [{"ask": {"q": "name", "id": 2}}, {"hear": True}, {"notices": True}]
+        for _ in range(length):
+            flushes += 1
+            lines += [{"set": 2, "name": "aria-label", "value": str(flushes)}, {"flush": True}]
+            lines.append(self.random.choice(said + said[:1] * 3 + [{"again": name}]))
+            if self.random.random() < 0.02:
+                awaited = max(awaited, flushes - self.random.choice((0, 0, 1, 5, 20, 100)))
+                lines += [{"await": awaited}] + [{"until": awaited}] * self.random.randrange(2)
+        return [json.dumps(line) for line in lines]
+
     def accepted_story(self, length):
         """The lines of a story of about that length, and the story."""
         while True:
