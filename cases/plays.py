@@ -8,7 +8,7 @@ from documents import Document
 from notices import notices
 from trees import Tree
 
-NOTICES_ARE_BUILT = False
+NOTICES_ARE_BUILT = True
 BUILT_REQUESTS = ("root", "focus", "role", "name", "description", "value", "states", "level", "live", "frame", "parent", "children")
 
 
