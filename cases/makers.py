@@ -314,27 +314,55 @@ class Maker:
 class ThreadedMaker(Maker):
     """Random stories for two threads: accepted ones, of which no side waits for ever, and whose moments differ."""
 
-    WEIGHTS = dict(edit=50, flush=40, ask=30, again=15, hear=12, **{"await": 8}, until=6, notices=8)
+    WEIGHTS = dict(edit=50, flush=40, ask=30, again=15, hear=12, **{"await": 8}, until=8, notices=8)
+    def request(self, editor):
+        """Mostly one of which the reply was another one flush before."""
+        return editor.one_of(*self.recent) if self.recent and editor.chance(0.7) else super().request(editor)
+
+    def look(self, editor):
+        """Looks which replies the next flush changes."""
+        before, self.tree = self.tree, Tree(editor.document)
+        ids = sorted(set(before.replies) | set(self.tree.replies))
+        asked = [{"q": "focus"}] + [{"q": word, "id": id} for id in ids for word in BUILT_REQUESTS[2:]]
+        changed = [request for request in asked if before.answer(request) != self.tree.answer(request)]
+        self.recent = (editor.random.sample(changed, min(len(changed), 6)) + self.recent)[:8]
 
     def threaded_line(self, editor, flushes, awaited):
         """Lines in an order in which they can be done, so that no side waits for ever."""
         kind = editor.random.choices(list(self.WEIGHTS), self.WEIGHTS.values())[0]
         if kind == "edit":
             return editor.edits()
+        if kind == "flush":
+            self.look(editor)
         if kind in ("ask", "again"):
             return [{kind: self.request(editor)}]
         if kind in ("flush", "hear", "notices"):
             return [{kind: True}]
-        return [{kind: editor.random.randrange((flushes if kind == "await" else awaited) + 1)}]
+        most = flushes if kind == "await" else awaited
+        return [{kind: editor.one_of(most, most, editor.random.randrange(most + 1))}]
 
     def threaded_story(self, length):
         editor, flushes, awaited = Editor(self.random.random()), 0, 0
         lines = [edit for _ in editor.some(4, 8, 12) for edit in editor.edits()] + [{"start": 1}]
+        self.tree, self.recent = Tree(editor.document), []
         for _ in range(length):
             lines += self.threaded_line(editor, flushes, awaited)
             flushes += "flush" in lines[-1]
             awaited = max(awaited, lines[-1].get("await", 0))
         lines += [{"await": flushes}, {"notices": True}] if editor.chance(0.5) else []
+        return [json.dumps(line) for line in lines]
+
+    def counting_story(self, length):
+        """A long story of one button, whose name is the next moment's number, so that both threads are at work for long."""
+        lines, flushes, awaited = [{"insert": 2, "into": 1, "tag": "button", "attrs": {"aria-label": "0"}}, {"start": 1}], 0, 0
+        name, said = {"q": "name", "id": 2}, [{"ask": {"q": "name", "id": 2}}, {"hear": True}, {"notices": True}]
+        for _ in range(length):
+            flushes += 1
+            lines += [{"set": 2, "name": "aria-label", "value": str(flushes)}, {"flush": True}]
+            lines.append(self.random.choice(said + said[:1] * 3 + [{"again": name}]))
+            if self.random.random() < 0.02:
+                awaited = max(awaited, flushes - self.random.choice((0, 0, 1, 5, 20, 100)))
+                lines += [{"await": awaited}] + [{"until": awaited}] * self.random.randrange(2)
         return [json.dumps(line) for line in lines]
 
     def accepted_story(self, length):

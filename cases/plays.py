@@ -8,7 +8,7 @@ from documents import Document
 from notices import notices
 from trees import Tree
 
-NOTICES_ARE_BUILT = False
+NOTICES_ARE_BUILT = True
 BUILT_REQUESTS = ("root", "focus", "role", "name", "description", "value", "states", "level", "live", "frame", "parent", "children")
 
 
@@ -31,7 +31,7 @@ class Story:
         changed = [line for line in self.page if "until" not in line]
         if changed and "flush" not in changed[-1]:
             self.page.append({"flush": True})
-        self.flushes = sum("flush" in line for line in self.page)
+        self.flushes, self.waits = sum("flush" in line for line in self.page), self.bounds()
         for number, moment in awaits:
             if moment > self.flushes:
                 raise Refused(number, "AwaitTooFar")
@@ -63,14 +63,19 @@ class Story:
             if "await" in line:
                 awaits.append((number, line["await"]))
 
+    def bounds(self):
+        """The waits of the page, but those that an earlier one makes needless: each with how many flushes stand before it."""
+        published, greatest, bounds = 0, 0, []
+        for line in self.page:
+            published += "flush" in line
+            if line.get("until", 0) > greatest:
+                greatest = line["until"]
+                bounds.append((greatest, published))
+        return bounds
+
     def published_at_most(self, taken):
         """How many moments may be published while the client has taken that one."""
-        published = 0
-        for line in self.page:
-            if line.get("until", 0) > taken:
-                break
-            published += "flush" in line
-        return published
+        return next((published for moment, published in self.waits if moment > taken), self.flushes)
 
     def is_stuck(self, awaits):
         taken = 0

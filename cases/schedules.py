@@ -3,11 +3,11 @@
 
     cases/schedules.py PROGRAM [SEED [SECONDS]]
 
-PROGRAM is an axcore program. The stories are random, accepted, and short and long; each is run 20 times: on all processors,
-on one alone, and while other processes keep the processors busy. Each transcript must be one that the story allows; at the
-first one that is not, the story and the transcript are printed, and it ends with status 1. It stops after so many seconds, 60
-if none are given. At its end it says how many runs there were, and how many different transcripts. It also tries some
-refused stories, of which `run` must write what `replay` writes.
+PROGRAM is an axcore program. The stories are random, accepted, and short and long; every eighth has some thousand moments.
+Each is run 20 times: on all processors, on one alone, and while other processes keep the processors busy. Each transcript
+must be one that the story allows; at the first one that is not, the story and the transcript are printed, and it ends with
+status 1. It stops after so many seconds, 60 if none are given. At its end it says how many runs there were, and how many
+different transcripts. It also tries some refused stories, of which `run` must write what `replay` writes.
 """
 import shutil
 import subprocess
@@ -16,10 +16,11 @@ import time
 
 from legal import Judge, Wrong
 from makers import Maker, ThreadedMaker
-from plays import answered
+from plays import Story, answered
 
 RUNS = 20
-LENGTHS = (10, 40, 40, 150, 400)
+LENGTHS = (40, 10, 40, 150, 40, 400, 150)
+COUNTED = 3000
 LONGEST_RUN = 60
 BUSY = [sys.executable, "-c", "while True: pass"]
 ONE_PROCESSOR = ["taskset", "-c", "0"]
@@ -92,6 +93,14 @@ def try_refused(program, maker, count):
     return refused
 
 
+def next_story(maker, number):
+    """The lines of a story, and the story."""
+    if number % 8:
+        return maker.accepted_story(LENGTHS[number % len(LENGTHS)])
+    lines = maker.counting_story(COUNTED)
+    return lines, Story(lines)
+
+
 def main():
     if len(sys.argv) < 2:
         sys.exit(__doc__)
@@ -100,7 +109,7 @@ def main():
     refused = try_refused(program, Maker(seed), 300)
     stories = different = several = 0
     while time.monotonic() < end:
-        lines, story = maker.accepted_story(LENGTHS[stories % len(LENGTHS)])
+        lines, story = next_story(maker, stories)
         texts = runs(program, lines, story)
         stories, different, several = stories + 1, different + len(texts), several + (len(texts) > 1)
     print("schedules: %d runs of %d stories, all legal; %d different transcripts, several of %d stories; %d refused stories"
