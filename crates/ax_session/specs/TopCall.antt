@@ -8,13 +8,15 @@ use Rattle.story_check.specs.Stories.{Script}
 use Rattle.ax_answer.specs.Legal.{IsLegalTranscript}
 use Rattle.ax_world.specs.Machine.{transcript_of}
 use Rattle.ax_session.specs.declared.words.Command.{Command}
-use Rattle.ax_session.specs.declared.words.Command.TheVariants.{Dump, Replay}
+use Rattle.ax_session.specs.declared.words.Command.TheVariants.{Dump, Replay, Run}
 use Rattle.ax_session.specs.declared.words.Status.{Status}
 use Rattle.ax_session.specs.declared.words.Status.TheVariants.{Done, Refused, ReadFault, WriteFault, NoMemory, Words}
 use Rattle.ax_session.specs.declared.story.Refusal.{Refusal}
 use Rattle.ax_session.specs.Command.{command_of}
 use Rattle.ax_session.specs.Refusals.{refusal_text}
 use Rattle.ax_session.specs.Story.{Accepted, IsRefused}
+use Rattle.ax_ask.specs.declared.transcripts.Transcript.{Transcript}
+use Rattle.ax_ask.specs.Transcripts.{transcript_text}
 use Rattle.ax_session.specs.Texts.{dump_text, replay_text}
 
 -- The input is one that the command does, and this text shows what it comes to. What is replayed is legal: each reply is that of the
@@ -22,21 +24,25 @@ use Rattle.ax_session.specs.Texts.{dump_text, replay_text}
 abbrev pub Does : Command → List ℕ → List ℕ → Type 0
 Does Dump input text = (story : Script) × Accepted input story × (text ≡ dump_text story)
 Does Replay input text = (story : Script) × Accepted input story × IsLegalTranscript story (transcript_of story) × (text ≡ replay_text story)
+Does Run input text = (story : Script) × (transcript : Transcript) × Accepted input story × IsLegalTranscript story transcript × (text ≡ transcript_text transcript)
 
 -- the input is one that the command does
 abbrev pub IsGood : Command → List ℕ → Type 0
 IsGood Dump input = (story : Script) × Accepted input story
 IsGood Replay input = (story : Script) × Accepted input story
+IsGood Run input = (story : Script) × Accepted input story
 
 -- this is the refusal of the input
 abbrev pub Refuses : Command → List ℕ → Refusal → Type 0
 Refuses Dump input refusal = IsRefused input refusal
 Refuses Replay input refusal = IsRefused input refusal
+Refuses Run input refusal = IsRefused input refusal
 
 -- a command that reads the source
 abbrev pub IsReader : Command → Type 0
 IsReader Dump = Unit {0}
 IsReader Replay = Unit {0}
+IsReader Run = Unit {0}
 
 -- for this input the command may answer so and write this text
 abbrev pub MayAnswer : Command → List ℕ → Status → List ℕ → Type 0
@@ -55,11 +61,13 @@ most_read = 2 ^ 24 + 1
 abbrev pub HasInput : Command → Option (List ℕ) → List ℕ → Type 0
 HasInput Dump left input = IsSomeAnd left (λ bytes. input ≡ take most_read bytes)
 HasInput Replay left input = IsSomeAnd left (λ bytes. input ≡ take most_read bytes)
+HasInput Run left input = IsSomeAnd left (λ bytes. input ≡ take most_read bytes)
 
 -- the input of a command was taken from the source, and nothing else
 abbrev pub TakesFor : Command → Option (List ℕ) → Option (List ℕ) → List ℕ → Type 0
 TakesFor Dump left left' input = TakesInput most_read left left' input
 TakesFor Replay left left' input = TakesInput most_read left left' input
+TakesFor Run left left' input = TakesInput most_read left left' input
 
 -- the input was taken and nothing else, and this text is the answer to it
 pub record Replies (words : List (String Global)) (left left' : Option (List ℕ)) (status : Status) (text : List ℕ) : Type 0 where
@@ -111,3 +119,4 @@ abbrev pub LeavesSpawner : {S : Type 0} → Option Command → S → S → Type 
 LeavesSpawner None old new = new ≡ old
 LeavesSpawner (Some Dump) old new = new ≡ old
 LeavesSpawner (Some Replay) old new = new ≡ old
+LeavesSpawner (Some Run) old new = Unit {0}

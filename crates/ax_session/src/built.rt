@@ -1,5 +1,6 @@
 //! Which accepted stories are built today.
 ghost use Rattle.std.specs.Prelude.{◌≡◌};
+ghost use Rattle.std.specs.List.{list_all};
 ghost use Rattle.ax_answer.specs.Answers.{is_answered};
 ghost use Rattle.ax_answer.specs.Moments.{is_answered_line};
 ghost use Rattle.ax_session.specs.Built.{is_built};
@@ -11,10 +12,17 @@ use story_check::{ClientLine, Story};
 pub fn is_built(story: &Story) -> bool
     ensures { result ≡ is_built story.now }
 {
-    story.client().iter().all(is_answered_line)
+    are_built(story.client())
 }
 
-/// Whether a line asks nothing, or what is answered. Notices are not answered yet.
+/// Whether a story with these lines of its client is built today, if it is accepted.
+pub fn are_built(client: &[ClientLine]) -> bool
+    ensures { result ≡ list_all is_answered_line client.now }
+{
+    client.iter().all(is_answered_line)
+}
+
+/// Whether a line asks nothing, or what is answered.
 fn is_answered_line(line: &ClientLine) -> bool
     ensures { result ≡ is_answered_line line.now }
 {
@@ -23,7 +31,7 @@ fn is_answered_line(line: &ClientLine) -> bool
         ClientLine::Again(request) => is_answered(request),
         ClientLine::Hear => true,
         ClientLine::Await(_) => true,
-        ClientLine::Notices => false,
+        ClientLine::Notices => true,
     }
 }
 
