@@ -39,4 +39,6 @@ fn main(rt: HostRuntime) -> ExitCode {
 }
 
 #[cfg(test)]
+mod meeting;
+#[cfg(test)]
 mod tests;
