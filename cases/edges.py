@@ -14,7 +14,7 @@ import tempfile
 
 DONE, REFUSED, READ_FAULT, WRITE_FAULT, WORDS = 0, 2, 3, 4, 6
 STORY = b'{"insert":2,"into":1,"tag":"button","attrs":{"aria-label":"Save"}}\n{"start":1}\n{"ask":{"q":"name","id":2}}\n'
-TEXTS = {"dump": b'1 0 document ""\n2 1 button "Save"\nend 0\n', "replay": b'#1 @0 name "Save"\nend 0\n'}
+TEXTS = {"dump": b'1 0 document ""\n2 1 button "Save"\nend 0\n', "replay": b'#1 @0 name "Save"\nend 0\n', "run": b'#1 @0 name "Save"\nend 0\n'}
 BROKEN, REFUSAL = STORY + b'{"focus":9}\n', b"refused 4 NoNode\n"
 NO_COMMANDS = [[], [""], ["Dump"], ["dump "], ["--help"], ["dump", "x"], ["replay", "replay"]]
 FOLDER, FULL, UNREAD = "a folder", "a full device", "a pipe that nobody reads"
