@@ -2,6 +2,8 @@
 use Rattle.std.proofs.Common.{◌≡◌, ℕ, List, Option, Some, None, refl, sym, ◌∙◌, subst, inl}
 use Rattle.std.specs.Prelude.{String}
 use Rattle.std.specs.declared.alloc.Global.{Global}
+use Rattle.story_check.specs.declared.last.LastMoment.{LastMoment}
+use Rattle.story_check.specs.Last.{IsLastOf}
 use Rattle.story_check.specs.Stories.{Script}
 use Rattle.ax_world.specs.Legal.{IsLegal}
 use Rattle.ax_world.specs.Machine.{played}
@@ -12,8 +14,9 @@ use Rattle.ax_session.specs.declared.words.Status.TheVariants.{Done, Refused, Re
 use Rattle.ax_session.specs.declared.story.Refusal.{Refusal}
 use Rattle.ax_session.specs.Command.{command_of}
 use Rattle.ax_session.specs.Story.{Accepted}
-use Rattle.ax_session.specs.Texts.{text_of}
+use Rattle.ax_session.specs.Texts.{document_text, replay_text}
 use Rattle.ax_session.specs.TopCall.{Does, IsGood, Refuses, MayAnswer, Completes, IsComplete, TakesFor, HasInput}
+use Rattle.ax_session.proofs.Lines.{last_text}
 
 -- no input is both done and refused
 good_apart : (command : Command) (input : List ℕ) (refusal : Refusal) → IsGood command input → Refuses command input refusal → ⊥
@@ -47,7 +50,10 @@ complete_from words mine left new reads reads' writes writes' taken input status
     let read : taken ≡ other = one_input command left new taken other (subst (λ c. TakesFor c left new taken) same t) l in
     answers command other status text (subst (λ c. MayAnswer c other status text) same (subst (λ i. MayAnswer mine i status text) (e ∙ read) h))
 
--- what a command writes of an accepted story
-pub does : (command : Command) (input : List ℕ) (story : Script) (text : List ℕ) → Accepted input story → IsLegal story (played story).entries → text ≡ text_of command story → Does command input text
-does Dump input story text a legal t = (story, a, t)
-does Replay input story text a legal t = (story, a, legal, t)
+-- what `dump` writes of an accepted story, by its last moment
+pub dumps : (input : List ℕ) (last : LastMoment) (text : List ℕ) → (story : Script) × Accepted input story × IsLastOf story last → text ≡ document_text last.document last.flushes → Does Dump input text
+dumps input last text (story, a, is) t = (story, a, t ∙ last_text story last.document last.flushes is.document_is is.flushes_are)
+
+-- what `replay` writes of an accepted story
+pub replays : (input : List ℕ) (story : Script) (text : List ℕ) → Accepted input story → IsLegal story (played story).entries → text ≡ replay_text story → Does Replay input text
+replays input story text a legal t = (story, a, legal, t)

@@ -1,5 +1,6 @@
 //! Which accepted stories are built today.
 ghost use Rattle.std.specs.Prelude.{◌≡◌};
+ghost use Rattle.std.specs.List.{list_all};
 ghost use Rattle.ax_answer.specs.Answers.{is_answered};
 ghost use Rattle.ax_session.specs.Built.{is_built_line, is_built};
 
@@ -10,7 +11,14 @@ use story_check::{ClientLine, Story};
 pub fn is_built(story: &Story) -> bool
     ensures { result ≡ is_built story.now }
 {
-    story.client().iter().all(is_built_line)
+    are_built(story.client())
+}
+
+/// Whether a story with these lines of its client is built today, if it is accepted.
+pub fn are_built(client: &[ClientLine]) -> bool
+    ensures { result ≡ list_all is_built_line client.now }
+{
+    client.iter().all(is_built_line)
 }
 
 fn is_built_line(line: &ClientLine) -> bool

@@ -5,9 +5,10 @@ ghost use Rattle.std.specs.Fmt.{decimal};
 ghost use Rattle.ax_base.specs.Quoting.{quoted};
 ghost use Rattle.story_check.specs.Moments.{IsAccepted};
 ghost use Rattle.ax_ask.specs.Transcripts.{end_line};
-ghost use Rattle.ax_session.specs.Texts.{number_of, record_line, lines_within, dump_text};
+ghost use Rattle.ax_session.specs.Texts.{number_of, record_line, lines_within, document_text, dump_text};
 
 use ax_base::{NoMemory, ObjId, Text, push_quoted, role_word};
+use ax_dom::Dom;
 use ax_record::{FreshTree, Record, TreeView};
 use ax_world::tree_of;
 use std::alloc::Global;
@@ -24,10 +25,17 @@ pub fn dump(alloc: Global, story: &Story) -> Result<Text, NoMemory>
     ensures { IfOk result (λ text. text ≡ dump_text story.now) }
 {
     let document = last_dom(alloc, story)?;
-    let tree = tree_of(alloc, &document)?;
+    document_text(alloc, &document, story.flushes())
+}
+
+/// What `dump` writes of the document of a story's last moment, whose number is that of its flushes.
+pub fn document_text(alloc: Global, document: &Dom, flushes: u32) -> Result<Text, NoMemory>
+    ensures { IfOk result (λ text. text ≡ document_text document.now flushes) }
+{
+    let tree = tree_of(alloc, document)?;
     let mut out = String::new(alloc);
     push_object(&tree, tree.root(), LEVELS, &mut out)?;
-    push_end(&mut out, story.flushes())?;
+    push_end(&mut out, flushes)?;
     Ok(Text::from_string(out))
 }
 

@@ -1,17 +1,15 @@
 //! The top call: from words and bytes to a status and bytes.
-ghost use Rattle.std.specs.Prelude.{◌≡◌, ◌↔◌, None, IfOk, IsErrOf};
+ghost use Rattle.std.specs.Prelude.{◌≡◌, ◌↔◌, None, IfOk, IfErr, IsErrOf};
 ghost use Rattle.ax_edge.specs.Causes.{Rose};
-ghost use Rattle.ax_world.specs.Legal.{IsLegal};
-ghost use Rattle.ax_world.specs.Machine.{played};
 ghost use Rattle.ax_session.specs.Command.{command_of};
-ghost use Rattle.ax_session.specs.Story.{IsReady};
-ghost use Rattle.ax_session.specs.Texts.{text_of};
-ghost use Rattle.ax_session.specs.TopCall.{IsReader, TakesFor, MayAnswer, StatusMeans, IsComplete};
+ghost use Rattle.ax_session.specs.declared.words.Command.TheVariants.{Dump, Replay};
+ghost use Rattle.ax_session.specs.Story.{judged, AcceptFails};
+ghost use Rattle.ax_session.specs.TopCall.{Does, IsReader, TakesFor, MayAnswer, StatusMeans, IsComplete};
 
-use crate::dump::dump;
+use crate::dump::document_text;
 use crate::refusals::refusal_line;
 use crate::replay::replay_text;
-use crate::story::accept;
+use crate::story::{accept, accept_last};
 use crate::{AcceptFail, Command, Status, command_of};
 use ax_base::{NoMemory, Text};
 use ax_edge::{Gate, ReadError, Sink, Source, Spawner, read_input, write_whole};
@@ -19,7 +17,6 @@ use ax_world::playing_ends;
 use std::alloc::Global;
 use std::sync::Wait;
 use std::thread::Threads;
-use story_check::Story;
 
 /// Does the command that the words name: reads its input to the end, does the work, and writes the whole text.
 ///
@@ -100,10 +97,10 @@ struct Reply {
 fn reply_to(alloc: Global, command: Command, input: &[u8]) -> Result<Reply, NoMemory>
     ensures { IfOk result (λ reply. MayAnswer command input.now reply.status reply.text) }
 {
-    match accept(alloc, input) {
-        Ok(story) => Ok(Reply {
+    match text_of(alloc, command, input) {
+        Ok(text) => Ok(Reply {
             status: Status::Done,
-            text: text_of(alloc, command, &story)?,
+            text,
         }),
         Err(AcceptFail::Refused(refusal)) => Ok(Reply {
             status: Status::Refused,
@@ -113,15 +110,34 @@ fn reply_to(alloc: Global, command: Command, input: &[u8]) -> Result<Reply, NoMe
     }
 }
 
-/// What a command writes of a story that is accepted and built. What is played of it is legal.
-fn text_of(alloc: Global, command: Command, story: &Story) -> Result<Text, NoMemory>
-    requires { IsReady story.now }
-    ensures text { IfOk result (λ text. text ≡ text_of command story.now) }
-    ensures legal { IsLegal story.now (played story.now).entries }
+/// What a command writes of its input, if this is a story that is accepted and built, or why it is refused.
+fn text_of(alloc: Global, command: Command, input: &[u8]) -> Result<Text, AcceptFail>
+    ensures done { IfOk result (λ text. Does command input.now text) }
+    ensures refused { IfErr result (λ fail. AcceptFails fail (judged input.now)) }
 {
-    playing_ends();
     match command {
-        Command::Dump => dump(alloc, story),
-        Command::Replay => replay_text(alloc, story),
+        Command::Dump => dump_input(alloc, input),
+        Command::Replay => replay_input(alloc, input),
     }
+}
+
+/// What `dump` writes of its input. No edit of the story is kept.
+fn dump_input(alloc: Global, input: &[u8]) -> Result<Text, AcceptFail>
+    ensures done { IfOk result (λ text. Does Dump input.now text) }
+    ensures refused { IfErr result (λ fail. AcceptFails fail (judged input.now)) }
+{
+    let last = accept_last(alloc, input)?;
+    let text = document_text(alloc, &last.document, last.flushes)?;
+    Ok(text)
+}
+
+/// What `replay` writes of its input. What is played is legal.
+fn replay_input(alloc: Global, input: &[u8]) -> Result<Text, AcceptFail>
+    ensures done { IfOk result (λ text. Does Replay input.now text) }
+    ensures refused { IfErr result (λ fail. AcceptFails fail (judged input.now)) }
+{
+    let story = accept(alloc, input)?;
+    playing_ends();
+    let text = replay_text(alloc, &story)?;
+    Ok(text)
 }
