@@ -1,5 +1,5 @@
 use Rattle.ax_names.proofs.Putting.{IsFlatSoFar}
-use Rattle.ax_names.proofs.front.Front.put_flat.Given as goal
+use Rattle.ax_names.proofs.front.Front.put_uneven.Given as goal
 
 -- the characters so far are put in, flattened
 abbrev pub invariant-loop-c : goal.invariant-loop-c
