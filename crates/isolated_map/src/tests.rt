@@ -68,7 +68,10 @@ fn a_copy_has_the_same_objects(rt: HostRuntime) -> Result<(), Fail> {
     let copy = Isolated::from_tree(alloc, &tree)?;
     needs_send(&copy);
     let (copy, notices) = copy.patch(alloc, ChangeLog::empty(alloc))?;
-    assert!(rt; copy.find(ObjId(1)).is_some_and(|r| r.role == Role::Document));
+    assert!(rt;
+        copy.find(ObjId(1))
+            .is_some_and(|r| r.role == Role::Document)
+    );
     assert!(rt; copy.find(ObjId(2)).is_none() && copy.focus().is_none());
     assert_eq!(rt; copy.root(), ObjId(1));
     assert_eq!(rt; notices.as_slice().len(), 0);

@@ -1,9 +1,9 @@
 //! A page to which a button is added, flushed.
 ghost use Rattle.std.specs.Prelude.{◌≡◌};
 
-use crate::LiveTree;
+use crate::{Flushed, LiveTree};
 use ax_base::{Attrs, Moment, Notice, NoticeKind, ObjId, Steps, Text};
-use ax_batch::{batch_between, batch_leads};
+use ax_batch::{Batch, batch_between, batch_leads};
 use ax_dom::{Dom, Edit, EditCause};
 use ax_notice::notices_between;
 use ax_record::TreeView;
@@ -66,12 +66,24 @@ fn flush_button<L: Ledger>(
     let mut steps = Steps::new(book, share);
     let (live, flushed) = live.flush(alloc, Moment(1), &mut steps)?;
     assert!(rt; live.find(ObjId(5)).is_some());
-    let added = flushed.batch.added.into_vec();
-    let changed = flushed.batch.changed.into_vec();
-    assert!(rt; added.len() == 1 && changed.len() == 1);
-    assert!(rt; added[0].id == ObjId(5) && changed[0].id == ObjId(1));
-    assert!(rt; are_new_kids_of_the_root(flushed.notices.as_slice()));
+    let Flushed { batch, notices } = flushed;
+    assert_eq!(rt; sizes(batch), (1, 1, 0));
+    assert!(rt; are_new_kids_of_the_root(notices.as_slice()));
     Ok(())
+}
+
+/// How many objects a batch adds, changes and removes.
+fn sizes(batch: Batch) -> (usize, usize, usize) {
+    let Batch {
+        added,
+        changed,
+        removed,
+        focus: _,
+    } = batch;
+    let added = added.into_vec();
+    let changed = changed.into_vec();
+    let removed = removed.into_vec();
+    (added.len(), changed.len(), removed.len())
 }
 
 /// Whether the one notice of moment 1 is that the kids of the root are others.
@@ -92,8 +104,8 @@ fn a_batch_of_equal_trees_is_empty(rt: HostRuntime) -> Result<(), Fail> {
     let (one, other) = (empty_page(alloc)?, empty_page(alloc)?);
     let batch = batch_between(alloc, &one, &other)?;
     batch_leads(&one, &other);
-    assert!(rt; batch.added.into_vec().is_empty() && batch.changed.into_vec().is_empty());
-    assert!(rt; batch.removed.into_vec().is_empty() && batch.focus.is_none());
+    assert!(rt; batch.focus.is_none());
+    assert_eq!(rt; sizes(batch), (0, 0, 0));
     Ok(())
 }
 
