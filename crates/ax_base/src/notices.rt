@@ -80,4 +80,13 @@ impl Notices {
         self.items.extend_from_slice(&[notice])?;
         Ok(())
     }
+
+    /// Adds more notices at the end, in their order. At an error nothing changes.
+    pub fn extend(&mut self, more: Notices) -> Result<(), NoMemory>
+        ensures ok { OnOk result (self.new ≡ self.old ++ more) }
+        ensures err { OnErr result (self.new ≡ self.old) }
+    {
+        self.items.extend_from_slice(more.as_slice())?;
+        Ok(())
+    }
 }

@@ -1,3 +1,4 @@
+pub mod LongTexts
 pub mod Fitting
 pub mod Bounded
 pub mod RightRuns

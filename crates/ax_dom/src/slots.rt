@@ -111,9 +111,9 @@ impl Slots {
     }
 
     /// Does an edit that changes a node alone. At an error nothing changes.
-    pub fn amend(&mut self, alloc: Global, id: ObjId, e: &Edit) -> Result<(), NoMemory>
+    pub fn amend(&mut self, alloc: Global, id: ObjId, e: Edit) -> Result<(), NoMemory>
         requires { IsSome (slot_at self.old id) }
-        ensures ok { OnOk result ((s : Slot) → slot_at self.old id ≡ Some s → self.new ≡ set_value (is_at (nat_cmp id)) self.old (slot_after e.now s)) }
+        ensures ok { OnOk result ((s : Slot) → slot_at self.old id ≡ Some s → self.new ≡ set_value (is_at (nat_cmp id)) self.old (slot_after e s)) }
         ensures err { OnErr result (self.new ≡ self.old) }
     {
         if let Some(slot) = self.map.get_mut(&id.0) {

@@ -1,3 +1,7 @@
 mod Rows
 pub mod TreeOf
 pub mod Preorder
+pub mod RoleEquality
+pub mod Equalities
+pub mod TakenOver
+pub mod Walking

@@ -69,7 +69,7 @@ list_any-filter p n (k ∷ ks) = go (p k) (finds n k) (p n) refl refl refl (list
     go false false c kept at here rest = rest
 
 -- whether something is found at a key
-is_some-lookup : {X : Type 0} (n : ℕ) (es : List (ℕ × X)) → list_any (finds n) (map (λ e. e.0) es) ≡ is_some (lookup (is_at (nat_cmp n)) es)
+pub is_some-lookup : {X : Type 0} (n : ℕ) (es : List (ℕ × X)) → list_any (finds n) (map (λ e. e.0) es) ≡ is_some (lookup (is_at (nat_cmp n)) es)
 is_some-lookup n [] = refl
 is_some-lookup n (e ∷ es) = go (finds n e.0) (is_some-lookup n es)
   where

@@ -38,10 +38,8 @@ pub fn change(alloc: Global, document: &mut Dom, edit: &Edit) -> Result<(), NoMe
     ensures ok { OnOk result (document.new ≡ edited document.old edit.now) }
     ensures err { OnErr result (document.new ≡ document.old) }
 {
-    match document.apply(alloc, edit) {
-        Ok(()) => Ok(()),
-        Err(_) => Err(NoMemory),
-    }
+    let copy = edit.copy(alloc)?;
+    document.apply_accepted(alloc, copy)
 }
 
 /// The document that these edits make of the root alone.

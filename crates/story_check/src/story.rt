@@ -109,6 +109,13 @@ impl Story {
         self.client.as_slice()
     }
 
+    /// The lines of the client as a `Vec`. It takes no memory.
+    pub fn into_client(self) -> Vec<ClientLine>
+        ensures { result.items ≡ self.client }
+    {
+        self.client
+    }
+
     /// The turns to play first.
     pub fn turns(&self) -> &[Who]
         ensures { result.now ≡ self.now.turns }

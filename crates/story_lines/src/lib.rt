@@ -7,8 +7,6 @@ mod forms;
 mod keys;
 mod markers;
 mod reading;
-#[cfg(test)]
-mod request_tests;
 mod requests;
 mod runs;
 mod searches;
