@@ -3,13 +3,7 @@ use Rattle.std.proofs.Common.{◌≡◌, ◌+◌, List, [], ◌∷◌, ◌++◌,
 use Rattle.story_check.specs.declared.story.ClientLine.{ClientLine}
 use Rattle.story_check.specs.Stories.{Script}
 use Rattle.ax_ask.specs.declared.transcripts.Entry.{Entry}
-use Rattle.ax_answer.specs.Legal.{Place, IsEntry, after_entry, AreLegal}
-
--- where the client stands after these lines with these entries
-abbrev pub place_after : Place → List ClientLine → List Entry → Place
-place_after c [] es = c
-place_after c (l ∷ ls) [] = c
-place_after c (l ∷ ls) (e ∷ es) = place_after (after_entry c l e) ls es
+use Rattle.ax_answer.specs.Legal.{Place, IsEntry, after_entry, AreLegal, place_after}
 
 pub legal-snoc : (s : Script) (c : Place) (lines : List ClientLine) (es : List Entry) (line : ClientLine) (e : Entry) → AreLegal s c lines es → e.number ≡ (place_after c lines es).lines + 1 → IsEntry s (place_after c lines es) line e → AreLegal s c (lines ++ line ∷ []) (es ++ e ∷ [])
 legal-snoc s c [] [] line e h n i = (n, i, tt)

@@ -38,6 +38,12 @@ after_entry c (Again q) e = record c { lines = c.lines + 1 }
 after_entry c Hear e = record c { lines = c.lines + 1; bell = e.moment }
 after_entry c Notices e = record c { lines = c.lines + 1; noticed = c.moment }
 
+-- where the client stands after these lines with these entries
+abbrev pub place_after : Place → List ClientLine → List Entry → Place
+place_after c [] es = c
+place_after c (l ∷ ls) [] = c
+place_after c (l ∷ ls) (e ∷ es) = place_after (after_entry c l e) ls es
+
 -- these lines may give these entries, one each, with their numbers
 abbrev pub AreLegal : Script → Place → List ClientLine → List Entry → Type 0
 AreLegal s c [] [] = Unit

@@ -25,7 +25,7 @@ use Rattle.ax_answer.specs.Answers.{answer}
 use Rattle.ax_answer.specs.Moments.{answer_at, notices_of}
 use Rattle.ax_answer.specs.Legal.{Place, outset, IsFound, IsEntry, after_entry, AreLegal, place_after}
 use Rattle.ax_answer.proofs.Noticing.{notices-join, notices-none}
-use Rattle.ax_answer.proofs.Legal.{legal-snoc, place-snoc}
+use Rattle.ax_answer.proofs.Places.{legal-snoc, place-snoc}
 use Rattle.ax_client.specs.declared.ends.ClientEnd.{ClientEnd}
 use Rattle.ax_client.specs.declared.ends.ClientEnd.TheVariants.{Done, NoMemory, Ended}
 use Rattle.ax_client.specs.declared.steps.Side.{Side}

@@ -15,8 +15,8 @@ use Rattle.story_check.proofs.Caps.{flushes-append, cap_past, untils-append, unt
 use Rattle.ax_ask.specs.declared.transcripts.Entry.{Entry}
 use Rattle.ax_ask.specs.declared.transcripts.EntryBody.TheVariants.{Reply, Await as AwaitBody, Hear as HearBody, Notices as NoticesBody}
 use Rattle.ax_answer.specs.Moments.{answer_at, notices_of}
-use Rattle.ax_answer.specs.Legal.{Place, outset, IsFound, IsEntry, after_entry, AreLegal}
-use Rattle.ax_answer.proofs.Places.{place_after, legal-snoc, place-snoc}
+use Rattle.ax_answer.specs.Legal.{Place, outset, IsFound, IsEntry, after_entry, AreLegal, place_after}
+use Rattle.ax_answer.proofs.Places.{legal-snoc, place-snoc}
 use Rattle.ax_world.specs.Machine.{State, start, step, page_step, client_step, did, waits, printed}
 
 abbrev pub first : {X : Type 0} → List X → Option X
