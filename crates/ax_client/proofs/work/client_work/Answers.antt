@@ -33,3 +33,15 @@ returns-in-Err-clause-did g c =
     let here = next_line lines i c.line-item.result c.loop-line-test.true c.line-item.is in
     ends_closed _ _ c.line_done.new.port c.close.new.self _ c.loop-line.invariant.own.1 c.close.ensures
     (c.in-Err.ensures.did (drop (i + 1) lines) (subst (λ (y : Script × List ClientLine). ClientStands y.0 y.1 c.loop-line.port.client c.loop-line.side) (λ j. (sym c.loop-line.invariant.own.1 j, here j)) c.loop-line.invariant.stands))
+
+pub loop-line-preserved : goal.loop-line-preserved
+loop-line-preserved g c =
+    let lines = c.args.lines.now in
+    let i = c.loop-line.line-index in
+    let here = next_line lines i c.line-item.result c.loop-line-test.true c.line-item.is in
+    let same : c.loop-line.port.story ≡ c.args.port.story = c.loop-line.invariant.own.1 in
+    record {
+      own = (c.line_done.ensures.own.0 ∙ c.loop-line.invariant.own.0, c.line_done.ensures.own.1 ∙ same);
+      stands = subst (λ (s : Script). ClientStands s (drop (i + 1) lines) c.line_done.new.port.client c.in-Ok.next) same
+          (c.in-Ok.ensures.did (drop (i + 1) lines) (subst (λ (y : Script × List ClientLine). ClientStands y.0 y.1 c.loop-line.port.client c.loop-line.side) (λ j. (sym same j, here j)) c.loop-line.invariant.stands));
+    }
