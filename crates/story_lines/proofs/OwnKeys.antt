@@ -44,11 +44,11 @@ and_right false c e = absurd (cc)
 
 key_kind : (k : Kind) (allowed : List Chars) (key : Chars) → AreNoOthers k allowed → list_any (λ a. bytes_eq a key) allowed ≡ true → IsNoOther k (kind_by key)
 key_kind k [] key own e = absurd (cc)
-key_kind k (a ∷ rest) key own e = through (bytes_eq a key) refl e
+key_kind k (a ∷ rest) key own e = through (bytes_eq a key) refl e (key_kind k rest key own.1)
   where
-    through : (b : Bool) → bytes_eq a key ≡ b → (b || list_any (λ a. bytes_eq a key) rest) ≡ true → IsNoOther k (kind_by key)
-    through true same f = subst (λ (x : Chars). IsNoOther k (kind_by x)) ((bytes_eq-Decides a key).0 same) own.0
-    through false other f = key_kind k rest key own.1 f
+    through : (b : Bool) → bytes_eq a key ≡ b → (b || list_any (λ a. bytes_eq a key) rest) ≡ true → (list_any (λ a. bytes_eq a key) rest ≡ true → IsNoOther k (kind_by key)) → IsNoOther k (kind_by key)
+    through true same f more = subst (λ (x : Chars). IsNoOther k (kind_by x)) ((bytes_eq-Decides a key).0 same) own.0
+    through false other f more = more f
 
 -- members with these keys alone
 members_kind : (k : Kind) (allowed : List Chars) (ms : Members) → AreNoOthers k allowed → only_keys allowed ms ≡ true → IsNoOther k (kind_among ms)
@@ -70,15 +70,12 @@ no_rest (Some x) p e = absurd (cc)
 -- where no key is an own one, this own key is none of them
 no_member : (k : Kind) (key : Chars) (ms : Members) → kind_by key ≡ Some k → kind_among ms ≡ None → get_member key ms ≡ None
 no_member k key no_members own e = refl
-no_member k key (member l value ms) own e = through (slice_cmp nat_cmp key l) refl
+no_member k key (member l value ms) own e = through (slice_cmp nat_cmp key l) refl (no_member k key ms own (no_rest (kind_by l) (kind_among ms) e))
   where
-    rest : get_member key ms ≡ None
-    rest = no_member k key ms own (no_rest (kind_by l) (kind_among ms) e)
-
-    through : (o : Ordering) → slice_cmp nat_cmp key l ≡ o → match_ordering o (get_member key ms) (Some value) (get_member key ms) ≡ None
-    through Less f = rest
-    through Greater f = rest
-    through Equal f =
+    through : (o : Ordering) → slice_cmp nat_cmp key l ≡ o → get_member key ms ≡ None → match_ordering o (get_member key ms) (Some value) (get_member key ms) ≡ None
+    through Less f rest = rest
+    through Greater f rest = rest
+    through Equal f rest =
         let same : key ≡ l = (bytes_eq-Decides key l).0 (sym (is_eq-slice_cmp key l) ∙ ap is_eq f) in
         let none : kind_by l ≡ None = no_first (kind_by l) (kind_among ms) e in
         absurd (some_none k (sym own ∙ ap kind_by same ∙ none))
@@ -246,16 +243,16 @@ picked k d o none same = through (is_kind k (kind_of d)) refl
 abbrev chosen : Option Kind → Data → Option Line
 chosen o d =
     option_map Change (
-        only_where (is_kind Insert o) (insert_element_of d)
-        or_else only_where (is_kind Insert o) (insert_text_of d)
-        or_else only_where (is_kind Remove o) (remove_of d)
-        or_else only_where (is_kind Move o) (move_of d)
-        or_else only_where (is_kind Set o) (set_of d)
-        or_else only_where (is_kind Unset o) (unset_of d)
-        or_else only_where (is_kind NewChars o) (text_of d)
-        or_else only_where (is_kind SetRuns o) (runs_of d)
-        or_else only_where (is_kind Frame o) (frame_of d)
-        or_else only_where (is_kind Focus o) (focus_of d))
+    only_where (is_kind Insert o) (insert_element_of d)
+    or_else only_where (is_kind Insert o) (insert_text_of d)
+    or_else only_where (is_kind Remove o) (remove_of d)
+    or_else only_where (is_kind Move o) (move_of d)
+    or_else only_where (is_kind Set o) (set_of d)
+    or_else only_where (is_kind Unset o) (unset_of d)
+    or_else only_where (is_kind NewChars o) (text_of d)
+    or_else only_where (is_kind SetRuns o) (runs_of d)
+    or_else only_where (is_kind Frame o) (frame_of d)
+    or_else only_where (is_kind Focus o) (focus_of d))
     or_else only_where (is_kind Start o) (start_of d)
     or_else only_where (is_kind Flush o) (flush_of d)
     or_else only_where (is_kind Until o) (until_of d)
@@ -270,16 +267,16 @@ form_chosen : (d : Data) → form_of d ≡ chosen (kind_of d) d
 unfolding form_of edit_of
 form_chosen d = λ i.
     option_map Change (
-        picked Insert d (insert_element_of d) (insert_element-apart d) refl i
-        or_else picked Insert d (insert_text_of d) (insert_text-apart d) refl i
-        or_else picked Remove d (remove_of d) (remove-apart d) refl i
-        or_else picked Move d (move_of d) (move-apart d) refl i
-        or_else picked Set d (set_of d) (set-apart d) refl i
-        or_else picked Unset d (unset_of d) (unset-apart d) refl i
-        or_else picked NewChars d (text_of d) (text-apart d) refl i
-        or_else picked SetRuns d (runs_of d) (runs-apart d) refl i
-        or_else picked Frame d (frame_of d) (frame-apart d) refl i
-        or_else picked Focus d (focus_of d) (focus-apart d) refl i)
+    picked Insert d (insert_element_of d) (insert_element-apart d) refl i
+    or_else picked Insert d (insert_text_of d) (insert_text-apart d) refl i
+    or_else picked Remove d (remove_of d) (remove-apart d) refl i
+    or_else picked Move d (move_of d) (move-apart d) refl i
+    or_else picked Set d (set_of d) (set-apart d) refl i
+    or_else picked Unset d (unset_of d) (unset-apart d) refl i
+    or_else picked NewChars d (text_of d) (text-apart d) refl i
+    or_else picked SetRuns d (runs_of d) (runs-apart d) refl i
+    or_else picked Frame d (frame_of d) (frame-apart d) refl i
+    or_else picked Focus d (focus_of d) (focus-apart d) refl i)
     or_else picked Start d (start_of d) (start-apart d) refl i
     or_else picked Flush d (flush_of d) (flush-apart d) refl i
     or_else picked Until d (until_of d) (until-apart d) refl i
