@@ -5,6 +5,7 @@ mod attributes;
 mod edits;
 mod forms;
 mod keys;
+mod kinds;
 mod markers;
 mod reading;
 mod requests;
