@@ -24,8 +24,16 @@ where_checked name None = []
 abbrev pub state_words : States → Chars
 state_words s =
     let record {
-      focusable = focusable; disabled = disabled; checked = checked; expanded = expanded; selected = selected;
-      pressed = pressed; required = required; readonly = readonly; invalid = invalid; busy = busy
+      focusable = focusable;
+      disabled = disabled;
+      checked = checked;
+      expanded = expanded;
+      selected = selected;
+      pressed = pressed;
+      required = required;
+      readonly = readonly;
+      invalid = invalid;
+      busy = busy;
     } = s in
     where_holds focusable (codes "focusable")
     ++ where_holds disabled (codes "disabled")

@@ -3,11 +3,11 @@ ghost use Rattle.std.specs.Prelude.{◌≡◌, ◌↔◌, ◌⊎◌, false, IfOk
 ghost use Rattle.story_check.specs.Stories.{stuck};
 ghost use Rattle.ax_session.specs.Ends.{PageFacts, ClientFacts, IsPaired};
 
+use ax_ask::Transcript;
+use ax_base::NoMemory;
 use ax_client::ClientEnd;
 use ax_port::Final;
 use page_thread::PageEnd;
-use ax_ask::Transcript;
-use ax_base::NoMemory;
 use story_check::Story;
 
 /// What the ends of the two workers come to: want of memory exactly where one of them is that, and else what the client was

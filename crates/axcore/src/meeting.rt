@@ -6,7 +6,8 @@ use std::sync::atomic::{AtomicU64, Ordering};
 use std::test::Fail;
 use std::thread;
 
-const STORY: &str = "{\"insert\":2,\"into\":1,\"tag\":\"button\"}\n{\"insert\":3,\"into\":2,\"text\":\"Save\"}\n{\"start\":1}\n{\"text\":3,\"to\":\"B\"}\n{\"flush\":true}\n{\"text\":3,\"to\":\"C\"}\n{\"flush\":true}\n{\"text\":3,\"to\":\"D\"}\n{\"flush\":true}\n{\"ask\":{\"q\":\"name\",\"id\":2}}\n{\"again\":{\"q\":\"name\",\"id\":2}}\n";
+const STORY: &str =
+    "{\"insert\":2,\"into\":1,\"tag\":\"button\"}\n{\"insert\":3,\"into\":2,\"text\":\"Save\"}\n{\"start\":1}\n{\"text\":3,\"to\":\"B\"}\n{\"flush\":true}\n{\"text\":3,\"to\":\"C\"}\n{\"flush\":true}\n{\"text\":3,\"to\":\"D\"}\n{\"flush\":true}\n{\"ask\":{\"q\":\"name\",\"id\":2}}\n{\"again\":{\"q\":\"name\",\"id\":2}}\n";
 
 const TOLD: &str = "#1 @2 name \"C\"\n#2 @2 name \"C\"\nend 3\n";
 
