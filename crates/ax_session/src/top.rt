@@ -50,12 +50,12 @@ pub fn axcore<R: Threads + Wait + Sync, I: Source, O: Sink, G: Gate + Sync, S: S
         Err(ReadError::Failed) => return Status::ReadFault,
         Err(ReadError::NoMemory) => return Status::NoMemory,
     };
-    let reply = match reply_to(rt, alloc, command, &input, gate, spawner) {
-        Ok(reply) => reply,
+    let answer = match reply_to(rt, alloc, command, &input, gate, spawner) {
+        Ok(answer) => answer,
         Err(NoMemory) => return Status::NoMemory,
     };
-    match write_whole(sink, reply.text.as_str().as_bytes()) {
-        Ok(()) => reply.status,
+    match write_whole(sink, answer.text.as_str().as_bytes()) {
+        Ok(()) => answer.status,
         Err(_) => Status::WriteFault,
     }
 }
