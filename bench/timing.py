@@ -10,15 +10,15 @@ READER = "import json,sys\nfor line in sys.stdin.buffer:\n    json.loads(line)\n
 
 
 class Measure:
-    """The least wall time of some runs in seconds, and the peak memory of the last in bytes."""
+    """The least wall time and the least processor time of some runs in seconds, and the peak memory of the last in bytes."""
 
-    def __init__(self, seconds, memory):
-        self.seconds, self.memory = seconds, memory
+    def __init__(self, seconds, processor, memory):
+        self.seconds, self.processor, self.memory = seconds, processor, memory
 
 
 def run(words, path, runs=RUNS, status=0):
     """The words on the file as standard input."""
-    best, peak = None, 0
+    wall, processor, peak = [], [], 0
     for _ in range(runs):
         with open(path, "rb") as source:
             start = time.perf_counter()
@@ -27,9 +27,10 @@ def run(words, path, runs=RUNS, status=0):
             took = time.perf_counter() - start
         if os.waitstatus_to_exitcode(ended) != status:
             sys.exit("%s: status %d" % (" ".join(words), os.waitstatus_to_exitcode(ended)))
-        best = took if best is None else min(best, took)
+        wall.append(took)
+        processor.append(usage.ru_utime + usage.ru_stime)
         peak = usage.ru_maxrss * 1024
-    return Measure(best, peak)
+    return Measure(min(wall), min(processor), peak)
 
 
 def story(lines):

@@ -3,33 +3,16 @@
 
     cases/limits.py PROGRAM [WORD ..]
 
-PROGRAM and the words before the command run axcore. Each case is a story, the command, and what must be written. The
-stories are too long to be kept as files, so they are made here. It ends with status 1 if one is answered otherwise.
+PROGRAM and the words before the command run axcore. The stories are too long to be kept as files, so they are made here. It
+ends with status 1 if one is answered otherwise.
 """
-import subprocess
 import sys
 
-CASES = []
+from compared import case, compare, refused
+
 START = '{"start":1}'
 GREATEST = 2147483647
 MOMENT = 1073741823
-
-
-def case(title, words, story, text):
-    """A story as lines or bytes; what must be written: a refusal's line and cause, or a text."""
-    if not isinstance(story, bytes):
-        story = ("\n".join(story) + "\n").encode()
-    if isinstance(text, tuple):
-        text, status = "refused %d %s\n" % text, 2
-    else:
-        status = 0
-    CASES.append((title, words, story, text.encode(), status))
-
-
-def refused(title, story, line, cause):
-    """A refused story, by both commands."""
-    case(title, "dump", story, (line, cause))
-    case(title, "replay", story, (line, cause))
 
 
 def element(id, into=1, tag="main", attrs=""):
@@ -258,6 +241,14 @@ case("a name behind 65,536 characters of white space", "dump",
 case("a name from the 64th level", "dump",
      [LINK] + [element(k, k - 1, "span") for k in range(3, 65)] + [text(65, 64, "deep"), START],
      ROOT + '2 1 link "deep"\n65 2 text "deep"\nend 0\n')
+for title, first, second, name in [
+    ("a space that stands last stays in a name", "x" * 511 + " ", "yz", "x" * 511 + " "),
+    ("a space before nothing is not in a name", "x" * 511, " \\t", "x" * 511),
+    ("nothing comes behind 512 characters", "x" * 512 + " ", " y", "x" * 512),
+    ("a name of 513 characters is cut", "x" * 513, "y", "x" * 512),
+    ("a space and a character fit into a name", "x" * 510, " \u00e9z", "x" * 510 + " \u00e9"),
+]:
+    case(title, "dump", [element(2, 1, "button"), text(3, 2, first), text(4, 2, second), START], ROOT + '2 1 button "%s"\nend 0\n' % name)
 TARGET = [element(2, 1, "span", ',"attrs":{"id":"t","hidden":""}'), text(3, 2, "\u00e9" * 65536)]
 for count in (1, 8):
     case("references to 65,536 characters: %d" % count, "dump",
@@ -300,18 +291,5 @@ refused("a wait that no await meets", [START, '{"flush":true}', '{"until":1}', '
 refused("a refused line after a wait", [START, '{"until":1}', "x"], 3, "BadJson")
 
 
-def main():
-    if len(sys.argv) < 2:
-        sys.exit(__doc__)
-    failed = 0
-    for title, words, story, text, status in CASES:
-        done = subprocess.run(sys.argv[1:] + [words], input=story, stdout=subprocess.PIPE, stderr=subprocess.DEVNULL)
-        if (done.stdout, done.returncode) != (text, status):
-            failed += 1
-            print("%s: %s: status %d, %r for %d, %r" % (words, title, done.returncode, done.stdout[:200], status, text[:200]))
-    print("limits: %d as they must be, %d otherwise" % (len(CASES) - failed, failed))
-    sys.exit(1 if failed else 0)
-
-
 if __name__ == "__main__":
-    main()
+    compare("limits", sys.argv, __doc__)

@@ -2,8 +2,9 @@
 import json
 import random
 
+import plays
 from documents import Document
-from plays import BUILT_REQUESTS
+from plays import BUILT_REQUESTS, Refused, Story
 from trees import BLOCKS, CHECKED, COUNTED, LIVE_ROLES, NAMED_FROM_CONTENT, NAMELESS, RANGES, ROLES, SELECTED, Tree
 
 TEXTS = ("Save", "Hi", "one two", " lead", "trail ", "a  b\t", "\u00e9\u4e2d", '"q\\', "x\u0001\u000by", "\u00a0", "", " ", " \n\f\r")
@@ -38,7 +39,14 @@ USUAL = {"input": ("type", "type", "value", "id", "checked"), "img": ("alt", "ro
 OWN = [(CHECKED, ["aria-checked"]), (SELECTED, ["aria-selected"]), (("button",), ["aria-pressed"]), (NAMELESS, ["aria-label"]),
        (("heading", "row", "treeitem"), ["aria-level"]), (("textbox", "searchbox", "combobox"), ["value"]),
        (RANGES, ["value", "aria-valuenow", "aria-valuetext"]), (LIVE_ROLES, ["aria-live"])]
+TURNED = OWN + [(("button", "a", "option", "tab", "row", "treeitem", "combobox"), ["aria-expanded"]), (("checkbox", "radio"), ["checked"])]
 TOLD_APART = [role for roles, _ in OWN for role in roles] + ["generic", "none"]
+
+
+def own_names(table, tag, attrs):
+    """The attributes that the role or the tag has an eye on, as far as the table goes."""
+    words = attrs.get("role", "").lower().split() + [tag, attrs.get("type", "")]
+    return [name for roles, names in table for name in names if set(words) & set(roles)]
 
 
 class Words:
@@ -86,9 +94,7 @@ class Words:
         names = [name for name in USUAL.get(tag, ()) if self.chance(0.5)]
         names += [self.one_of(*NAMES) for _ in self.some(0, 0, 0, 1, 1, 2, 2, 3, 5)]
         attrs = {**{name: self.value(name) for name in names}, **given}
-        words = attrs.get("role", "").lower().split() + [tag, attrs.get("type", "")]
-        own = [name for roles, names in OWN for name in names if set(words) & set(roles)]
-        attrs.update({name: self.value(name) for name in own if self.chance(0.7)})
+        attrs.update({name: self.value(name) for name in own_names(OWN, tag, attrs) if self.chance(0.7)})
         return attrs
 
     def rect(self):
@@ -159,7 +165,7 @@ class Editor(Words):
         kinds = (self.insert, self.move, self.set, self.unset, self.runs, lambda: {"remove": self.id()},
                  lambda: {"text": self.text_node(), "to": self.text()}, lambda: {"frame": self.element(), "rect": self.rect()},
                  lambda: {"focus": self.one_of(0, self.id(), self.id(), self.id())})
-        return self.random.choices(kinds, (50, 10, 16, 5, 5, 3, 6, 4, 6))[0]()
+        return self.random.choices(kinds, (50, 10, 24, 8, 5, 3, 8, 4, 6))[0]()
 
     def accepted_edit(self):
         """Mostly an edit that the document takes, and does it then."""
@@ -219,11 +225,38 @@ class Editor(Words):
         inner = self.child(outer["insert"], "div", self.attrs("div", role=self.one_of(*LIVE_ROLES)))
         return [outer, inner, self.words(inner["insert"])]
 
+    def turned(self):
+        """A state or a value that an element may lose, get or change; where none has one, there is a new one."""
+        own = [(id, name) for id, node in self.document.nodes.items() if not node.is_text()
+               for name in own_names(TURNED, node.tag, node.attrs)]
+        if len(own) < 3:
+            return [self.new(self.one_of("input", "div"), {"role": self.one_of(*CHECKED, *SELECTED, *RANGES, "textbox", "button")})]
+        id, name = self.one_of(*own)
+        if self.chance(0.3) and name in self.document.nodes[id].attrs:
+            return [self.done({"unset": id, "name": name})]
+        return [self.done({"set": id, "name": name, "value": self.one_of("true", "false", "mixed", "", self.value(name))})]
+
+    def nudged(self):
+        """A text with other white space, or the last child of a node before the first."""
+        texts = [(id, node.text) for id, node in self.document.nodes.items() if node.is_text()]
+        parents = [(id, node.children) for id, node in self.document.nodes.items() if len(node.children) > 1]
+        if parents and self.chance(0.5):
+            into, children = self.one_of(*parents)
+            return [self.done({"move": children[-1], "into": into, "before": children[0]})]
+        if not texts:
+            return [self.accepted_edit()]
+        id, text = self.one_of(*texts)
+        return [self.done({"text": id, "to": self.one_of(" ", "\n") + text})]
+
     def edits(self):
         """One edit, or some that belong together."""
+        if self.chance(0.2):
+            return self.turned()
+        if self.chance(0.06):
+            return self.nudged()
         if self.chance(0.88):
             return [self.accepted_edit()]
-        return self.one_of(*[self.named_from_content] * 4, *[self.referred] * 3, *[self.labelled] * 2, self.live)()
+        return self.one_of(*[self.named_from_content] * 4, *[self.referred] * 3, *[self.labelled] * 2, *[self.live] * 2)()
 
 
 class Maker:
@@ -241,7 +274,7 @@ class Maker:
 
     def line(self, editor, flushes):
         kind = editor.random.choices(("flush", "until", "ask", "await", "hear", "blank", "notices", "start"),
-                                     (110, 25, 150, 50, 20, 20, 2, 1))[0]
+                                     (110, 25, 150, 50, 20, 20, 30 if plays.NOTICES_ARE_BUILT else 2, 1))[0]
         return {
             "flush": lambda: {"flush": True},
             "until": lambda: {"until": editor.one_of(0, 0, max(flushes - 1, 0), flushes)},
@@ -260,7 +293,8 @@ class Maker:
         for words, count in [(("description", "value", "states", "level", "live", "frame"), 60), (BUILT_REQUESTS[2:], 20)]:
             told = [{"q": word, "id": id} for id in replies for word in words if count == 20 or replies[id][word] not in empty]
             asked += editor.random.sample(told, min(len(told), count))
-        return [{"flush": True}, {"await": flushes + 1}] + [{"again": request} for request in asked + [{"q": "focus"}]]
+        heard = [{"notices": True}] if plays.NOTICES_ARE_BUILT else []
+        return [{"flush": True}, {"await": flushes + 1}] + [{"again": request} for request in asked + [{"q": "focus"}]] + heard
 
     def story(self):
         editor, flushes, lines = Editor(self.random.random()), 0, []
@@ -275,3 +309,76 @@ class Maker:
             flushes += lines[-1] is not None and "flush" in lines[-1]
         lines += self.last_look(editor, flushes) if editor.chance(0.8) else []
         return [editor.one_of("", " \t\r") if line is None else json.dumps(line) for line in lines]
+
+
+class ThreadedMaker(Maker):
+    """Random stories for two threads: accepted ones, of which no side waits for ever, and whose moments differ."""
+
+    WEIGHTS = dict(edit=50, flush=40, ask=30, again=15, hear=12, **{"await": 8}, until=8, notices=8)
+    def request(self, editor):
+        """Mostly one of which the reply was another one flush before."""
+        return editor.one_of(*self.recent) if self.recent and editor.chance(0.7) else super().request(editor)
+
+    def look(self, editor):
+        """Looks which replies the next flush changes."""
+        before, self.tree = self.tree, Tree(editor.document)
+        ids = sorted(set(before.replies) | set(self.tree.replies))
+        asked = [{"q": "focus"}] + [{"q": word, "id": id} for id in ids for word in BUILT_REQUESTS[2:]]
+        changed = [request for request in asked if before.answer(request) != self.tree.answer(request)]
+        self.recent = (editor.random.sample(changed, min(len(changed), 6)) + self.recent)[:8]
+
+    def threaded_line(self, editor, flushes, awaited):
+        """Lines in an order in which they can be done, so that no side waits for ever."""
+        kind = editor.random.choices(list(self.WEIGHTS), self.WEIGHTS.values())[0]
+        if kind == "edit":
+            return editor.edits()
+        if kind == "flush":
+            self.look(editor)
+        if kind in ("ask", "again"):
+            return [{kind: self.request(editor)}]
+        if kind in ("flush", "hear", "notices"):
+            return [{kind: True}]
+        most = flushes if kind == "await" else awaited
+        return [{kind: editor.one_of(most, most, editor.random.randrange(most + 1))}]
+
+    def threaded_story(self, length):
+        editor, flushes, awaited = Editor(self.random.random()), 0, 0
+        lines = [edit for _ in editor.some(4, 8, 12) for edit in editor.edits()] + [{"start": 1}]
+        self.tree, self.recent = Tree(editor.document), []
+        for _ in range(length):
+            lines += self.threaded_line(editor, flushes, awaited)
+            flushes += "flush" in lines[-1]
+            awaited = max(awaited, lines[-1].get("await", 0))
+        lines += [{"await": flushes}, {"notices": True}] if editor.chance(0.5) else []
+        return [json.dumps(line) for line in lines]
+
+    def counting_story(self, length):
+        """A long story of one button, whose name is the next moment's number, so that both threads are at work for long."""
+        lines, flushes, awaited = [{"insert": 2, "into": 1, "tag": "button", "attrs": {"aria-label": "0"}}, {"start": 1}], 0, 0
+        name, said = {"q": "name", "id": 2}, [{"ask": {"q": "name", "id": 2}}, {"hear": True}, {"notices": True}]
+        for _ in range(length):
+            flushes += 1
+            lines += [{"set": 2, "name": "aria-label", "value": str(flushes)}, {"flush": True}]
+            lines.append(self.random.choice(said + said[:1] * 3 + [{"again": name}]))
+            if self.random.random() < 0.02:
+                awaited = max(awaited, flushes - self.random.choice((0, 0, 1, 5, 20, 100)))
+                lines += [{"await": awaited}] + [{"until": awaited}] * self.random.randrange(2)
+        return [json.dumps(line) for line in lines]
+
+    def accepted_story(self, length):
+        """The lines of a story of about that length, and the story."""
+        while True:
+            lines = self.threaded_story(length)
+            try:
+                story = Story(lines)
+            except Refused:
+                continue
+            if story.asks_what_is_built():
+                return lines, story
+
+    def turns(self, story):
+        """Turns for about all lines of a story, mostly some of one side after another."""
+        left, turns = len(story.page) + len(story.client), ""
+        while len(turns) < left:
+            turns += self.random.choice("PC") * self.random.choice((1, 1, 2, 3, 5, 10, left))
+        return turns

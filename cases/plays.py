@@ -5,8 +5,10 @@ Written from docs/STORY_FORMAT.md alone, sections 4 to 6. The lines are those of
 import json
 
 from documents import Document
+from notices import notices
 from trees import Tree
 
+NOTICES_ARE_BUILT = True
 BUILT_REQUESTS = ("root", "focus", "role", "name", "description", "value", "states", "level", "live", "frame", "parent", "children")
 
 
@@ -29,7 +31,7 @@ class Story:
         changed = [line for line in self.page if "until" not in line]
         if changed and "flush" not in changed[-1]:
             self.page.append({"flush": True})
-        self.flushes = sum("flush" in line for line in self.page)
+        self.flushes, self.waits = sum("flush" in line for line in self.page), self.bounds()
         for number, moment in awaits:
             if moment > self.flushes:
                 raise Refused(number, "AwaitTooFar")
@@ -61,14 +63,19 @@ class Story:
             if "await" in line:
                 awaits.append((number, line["await"]))
 
+    def bounds(self):
+        """The waits of the page, but those that an earlier one makes needless: each with how many flushes stand before it."""
+        published, greatest, bounds = 0, 0, []
+        for line in self.page:
+            published += "flush" in line
+            if line.get("until", 0) > greatest:
+                greatest = line["until"]
+                bounds.append((greatest, published))
+        return bounds
+
     def published_at_most(self, taken):
         """How many moments may be published while the client has taken that one."""
-        published = 0
-        for line in self.page:
-            if line.get("until", 0) > taken:
-                break
-            published += "flush" in line
-        return published
+        return next((published for moment, published in self.waits if moment > taken), self.flushes)
 
     def is_stuck(self, awaits):
         taken = 0
@@ -78,9 +85,12 @@ class Story:
             taken = max(taken, moment)
         return any(line.get("until", 0) > taken for line in self.page)
 
-    def is_built(self):
+    def asks_what_is_built(self):
         requests = [line.get("ask") or line.get("again") or {"q": "root"} for line in self.client]
-        return all(request["q"] in BUILT_REQUESTS for request in requests) and not any("notices" in line for line in self.client)
+        return all(request["q"] in BUILT_REQUESTS for request in requests)
+
+    def is_built(self):
+        return self.asks_what_is_built() and (NOTICES_ARE_BUILT or not any("notices" in line for line in self.client))
 
     def trees(self, moments):
         """The trees of these moments, by their numbers."""
@@ -95,11 +105,14 @@ class Story:
                 document.apply(line)
         return trees
 
-    def entries(self):
-        """The client's lines in their order, each with its moment and the moment taken by then."""
+    def entries(self, turns=None):
+        """The client's lines in their order, each with its moment and the moment taken by then.
+
+        The turns that are played first are those given, or else the story's.
+        """
         page, client, published, taken, entries = 0, 0, 0, 0, []
-        turns = (self.turns or "") + "PC" * (len(self.page) + len(self.client))
-        for side in turns:
+        turns = (self.turns or "") if turns is None else turns
+        for side in turns + "PC" * (len(self.page) + len(self.client)):
             if side == "P" and page < len(self.page) and self.page[page].get("until", 0) <= taken:
                 published += "flush" in self.page[page]
                 page += 1
@@ -113,14 +126,32 @@ class Story:
     def dumped(self):
         return self.trees([self.flushes])[self.flushes].dumped()
 
-    def played(self):
-        entries, told = self.entries(), ""
-        trees = self.trees({taken for line, _, taken in entries if "ask" in line or "again" in line})
+    def played(self, turns=None):
+        """What is written of the play by these turns, or else by the story's."""
+        entries, told, listed = self.entries(turns), "", 0
+        trees = self.trees(self.needed(entries))
         for number, (line, moment, taken) in enumerate(entries, 1):
-            request = line.get("ask") or line.get("again")
-            reply = trees[taken].answer(request) if request else "hear" if "hear" in line else "await"
-            told += "#%d @%d %s\n" % (number, moment, reply)
+            first, listed = listed + 1, taken if "notices" in line else listed
+            told += entry(number, moment, line, trees, first)
         return told
+
+    def needed(self, entries):
+        """The moments whose trees tell the entries."""
+        if any("notices" in line for line, _, _ in entries):
+            return range(self.flushes + 1)
+        return {taken for line, _, taken in entries if "ask" in line or "again" in line}
+
+
+def entry(number, moment, line, trees, first):
+    """What is written for a line of the client, whose notices would be those from the moment `first` on."""
+    told = "#%d @%d " % (number, moment)
+    request = line.get("ask") or line.get("again")
+    if request:
+        return told + trees[moment].answer(request) + "\n"
+    if "notices" not in line:
+        return told + ("hear\n" if "hear" in line else "await\n")
+    listed = [(each,) + notice for each in range(first, moment + 1) for notice in notices(trees[each - 1], trees[each])]
+    return told + "notices %d\n" % len(listed) + "".join("! %d %s %d\n" % notice for notice in listed)
 
 
 def answered(lines, command):

@@ -307,10 +307,13 @@ class Shown:
 
 
 class Tree:
-    """What is shown of a document at one moment: the lines of a dump, the replies about each object, and the focus."""
+    """What is shown of a document at one moment: the lines of a dump, the replies about each object, and the focus.
+
+    `said` has the characters of each text, and the name of each other object.
+    """
 
     def __init__(self, document):
-        self.lines, self.kids, self.replies = [], {}, {}
+        self.lines, self.kids, self.parents, self.said, self.replies = [], {}, {}, {}, {}
         self.add(Shown(document), 1, 0)
         focus = [] if document.focus is None else document.above(document.focus)
         self.focus = next((id for id in focus if id in self.replies), None)
@@ -318,7 +321,8 @@ class Tree:
     def add(self, shown, id, parent):
         value, level = shown.value(id), shown.level(id)
         self.lines.append("%d %d %s %s\n" % (id, parent, shown.role(id), quoted(shown.name(id))))
-        self.kids[id] = shown.kids(id)
+        self.kids[id], self.parents[id] = shown.kids(id), parent
+        self.said[id] = shown.nodes[id].text if shown.nodes[id].is_text() else shown.name(id)
         self.replies[id] = {
             "role": "role " + shown.role(id),
             "name": "name " + quoted(shown.name(id)),

@@ -1,1 +1,3 @@
 mod Shown
+pub mod Places
+pub mod Noticing

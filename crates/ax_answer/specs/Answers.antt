@@ -9,8 +9,20 @@ use Rattle.ax_ask.specs.declared.replies.Reply.TheVariants.{Stale, Nothing, Root
 use Rattle.ax_record.specs.declared.record.Record.{Record}
 use Rattle.ax_record.specs.Tree.{Tree, record_at}
 
--- the requests that are answered: those about the root, the focus and an object; those about markers, places and searches are not yet
+-- The requests that are answered: those about the root, the focus and an object. Those about markers, places and searches are not yet.
 abbrev pub is_answered : Request → Bool
+is_answered Root = true
+is_answered Focus = true
+is_answered (Role id) = true
+is_answered (Name id) = true
+is_answered (Description id) = true
+is_answered (Value id) = true
+is_answered (States id) = true
+is_answered (Level id) = true
+is_answered (Live id) = true
+is_answered (Frame id) = true
+is_answered (Parent id) = true
+is_answered (Children id from) = true
 is_answered (Compare a b) = false
 is_answered (NextChar at) = false
 is_answered (PrevChar at) = false
@@ -20,10 +32,11 @@ is_answered (TextOf from to) = false
 is_answered (BoundsOf from to) = false
 is_answered (Search r) = false
 is_answered (Hit x y) = false
-is_answered _ = true
 
 -- the object that a request is about
 abbrev pub asked_object : Request → Option ℕ
+asked_object Root = None
+asked_object Focus = None
 asked_object (Role id) = Some id
 asked_object (Name id) = Some id
 asked_object (Description id) = Some id
@@ -34,7 +47,15 @@ asked_object (Live id) = Some id
 asked_object (Frame id) = Some id
 asked_object (Parent id) = Some id
 asked_object (Children id from) = Some id
-asked_object _ = None
+asked_object (Compare a b) = None
+asked_object (NextChar at) = None
+asked_object (PrevChar at) = None
+asked_object (NextWord at) = None
+asked_object (LineAt at) = None
+asked_object (TextOf from to) = None
+asked_object (BoundsOf from to) = None
+asked_object (Search r) = None
+asked_object (Hit x y) = None
 
 -- how many children there are, up to the greatest number that is told
 abbrev pub count_of : List ℕ → ℕ
@@ -46,6 +67,8 @@ children_from from kids = take 256 (drop from kids)
 
 -- what the record of an object answers to a request about it
 abbrev pub answer_of : Record → Request → Reply
+answer_of r Root = Nothing
+answer_of r Focus = Nothing
 answer_of r (Role id) = TheRole r.role
 answer_of r (Name id) = TheName r.name
 answer_of r (Description id) = TheDescription r.description
@@ -56,13 +79,39 @@ answer_of r (Live id) = TheLive r.live
 answer_of r (Frame id) = TheFrame r.frame
 answer_of r (Parent id) = option_map_or TheParent r.parent Nothing
 answer_of r (Children id from) = TheChildren (count_of r.kids) (children_from from r.kids)
-answer_of r _ = Nothing
+answer_of r (Compare a b) = Nothing
+answer_of r (NextChar at) = Nothing
+answer_of r (PrevChar at) = Nothing
+answer_of r (NextWord at) = Nothing
+answer_of r (LineAt at) = Nothing
+answer_of r (TextOf from to) = Nothing
+answer_of r (BoundsOf from to) = Nothing
+answer_of r (Search q) = Nothing
+answer_of r (Hit x y) = Nothing
 
 -- what a tree answers to a request that is about no object of its own
 abbrev pub answer_whole : Tree → Request → Reply
 answer_whole t Root = TheRoot root
 answer_whole t Focus = option_map_or TheFocus t.focus Nothing
-answer_whole t _ = Nothing
+answer_whole t (Role id) = Nothing
+answer_whole t (Name id) = Nothing
+answer_whole t (Description id) = Nothing
+answer_whole t (Value id) = Nothing
+answer_whole t (States id) = Nothing
+answer_whole t (Level id) = Nothing
+answer_whole t (Live id) = Nothing
+answer_whole t (Frame id) = Nothing
+answer_whole t (Parent id) = Nothing
+answer_whole t (Children id from) = Nothing
+answer_whole t (Compare a b) = Nothing
+answer_whole t (NextChar at) = Nothing
+answer_whole t (PrevChar at) = Nothing
+answer_whole t (NextWord at) = Nothing
+answer_whole t (LineAt at) = Nothing
+answer_whole t (TextOf from to) = Nothing
+answer_whole t (BoundsOf from to) = Nothing
+answer_whole t (Search r) = Nothing
+answer_whole t (Hit x y) = Nothing
 
 -- what a tree answers: about an object it is stale exactly where the tree lacks it
 abbrev pub answer : Tree → Request → Reply

@@ -37,7 +37,17 @@ fn asked_object(q: &Request) -> Option<ObjId>
         | Request::Frame(id)
         | Request::Parent(id)
         | Request::Children(id, _) => Some(*id),
-        _ => None,
+        Request::Root
+        | Request::Focus
+        | Request::Compare(_, _)
+        | Request::NextChar(_)
+        | Request::PrevChar(_)
+        | Request::NextWord(_)
+        | Request::LineAt(_)
+        | Request::TextOf(_, _)
+        | Request::BoundsOf(_, _)
+        | Request::Search(_)
+        | Request::Hit(_, _) => None,
     }
 }
 
@@ -51,7 +61,25 @@ fn answer_whole<T: TreeView>(t: &T, q: &Request) -> Reply
             Some(id) => Reply::Focus(id),
             None => Reply::Nothing,
         },
-        _ => Reply::Nothing,
+        Request::Role(_)
+        | Request::Name(_)
+        | Request::Description(_)
+        | Request::Value(_)
+        | Request::States(_)
+        | Request::Level(_)
+        | Request::Live(_)
+        | Request::Frame(_)
+        | Request::Parent(_)
+        | Request::Children(_, _)
+        | Request::Compare(_, _)
+        | Request::NextChar(_)
+        | Request::PrevChar(_)
+        | Request::NextWord(_)
+        | Request::LineAt(_)
+        | Request::TextOf(_, _)
+        | Request::BoundsOf(_, _)
+        | Request::Search(_)
+        | Request::Hit(_, _) => Reply::Nothing,
     }
 }
 
@@ -82,7 +110,17 @@ fn answer_of(alloc: Global, object: &Record, q: &Request) -> Result<Reply, NoMem
             let kids = object.kids.as_slice();
             Reply::Children(count_of(kids), children_from(alloc, kids, *from)?)
         }
-        _ => Reply::Nothing,
+        Request::Root
+        | Request::Focus
+        | Request::Compare(_, _)
+        | Request::NextChar(_)
+        | Request::PrevChar(_)
+        | Request::NextWord(_)
+        | Request::LineAt(_)
+        | Request::TextOf(_, _)
+        | Request::BoundsOf(_, _)
+        | Request::Search(_)
+        | Request::Hit(_, _) => Reply::Nothing,
     })
 }
 

@@ -23,13 +23,25 @@ where_checked name None = []
 -- the states that hold or that the object has, each after a space
 abbrev pub state_words : States → Chars
 state_words s =
-    where_holds s.focusable (codes "focusable")
-    ++ where_holds s.disabled (codes "disabled")
-    ++ where_checked (codes "checked") s.checked
-    ++ where_told (codes "expanded") s.expanded
-    ++ where_told (codes "selected") s.selected
-    ++ where_checked (codes "pressed") s.pressed
-    ++ where_holds s.required (codes "required")
-    ++ where_holds s.readonly (codes "readonly")
-    ++ where_holds s.invalid (codes "invalid")
-    ++ where_holds s.busy (codes "busy")
+    let record {
+      focusable = focusable;
+      disabled = disabled;
+      checked = checked;
+      expanded = expanded;
+      selected = selected;
+      pressed = pressed;
+      required = required;
+      readonly = readonly;
+      invalid = invalid;
+      busy = busy;
+    } = s in
+    where_holds focusable (codes "focusable")
+    ++ where_holds disabled (codes "disabled")
+    ++ where_checked (codes "checked") checked
+    ++ where_told (codes "expanded") expanded
+    ++ where_told (codes "selected") selected
+    ++ where_checked (codes "pressed") pressed
+    ++ where_holds required (codes "required")
+    ++ where_holds readonly (codes "readonly")
+    ++ where_holds invalid (codes "invalid")
+    ++ where_holds busy (codes "busy")

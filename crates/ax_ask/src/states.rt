@@ -10,16 +10,28 @@ use std::fmt::Write;
 pub fn push_states(out: &mut String, s: &States) -> Result<(), NoMemory>
     ensures { OnOk result (string_bytes out.new ≡ string_bytes out.old ++ state_words s.now) }
 {
-    push_where_holds(out, s.focusable, "focusable")?;
-    push_where_holds(out, s.disabled, "disabled")?;
-    push_where_checked(out, "checked", s.checked)?;
-    push_where_told(out, "expanded", s.expanded)?;
-    push_where_told(out, "selected", s.selected)?;
-    push_where_checked(out, "pressed", s.pressed)?;
-    push_where_holds(out, s.required, "required")?;
-    push_where_holds(out, s.readonly, "readonly")?;
-    push_where_holds(out, s.invalid, "invalid")?;
-    push_where_holds(out, s.busy, "busy")?;
+    let States {
+        focusable,
+        disabled,
+        checked,
+        expanded,
+        selected,
+        pressed,
+        required,
+        readonly,
+        invalid,
+        busy,
+    } = *s;
+    push_where_holds(out, focusable, "focusable")?;
+    push_where_holds(out, disabled, "disabled")?;
+    push_where_checked(out, "checked", checked)?;
+    push_where_told(out, "expanded", expanded)?;
+    push_where_told(out, "selected", selected)?;
+    push_where_checked(out, "pressed", pressed)?;
+    push_where_holds(out, required, "required")?;
+    push_where_holds(out, readonly, "readonly")?;
+    push_where_holds(out, invalid, "invalid")?;
+    push_where_holds(out, busy, "busy")?;
     Ok(())
 }
 

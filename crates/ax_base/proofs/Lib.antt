@@ -7,6 +7,9 @@ pub mod Flattening
 pub mod FirstTokens
 pub mod Lookups
 pub mod SameLookups
+pub mod Filled
+pub mod IdParts
+pub mod Marked
 pub mod Repeats
 pub mod Rising
 pub mod Shapes
@@ -14,10 +17,10 @@ pub mod Joins
 pub mod Reached
 pub mod KidsLaws
 pub mod Objects
-pub mod Written
 pub mod Rectangles
 pub mod TextRoles
 pub mod SaidLaws
+pub mod Quotes
 mod Tables
 mod Rows
 mod NameRows

@@ -135,7 +135,8 @@ keys-insert_entry (e ∷ es) k v = go (nat_cmp k e.0) (keys-insert_entry es k v)
     go Equal rest = refl
     go Greater rest = ap (λ l. e.0 ∷ l) rest
 
-all_insert_key : (P : ℕ → Type 0) (k : ℕ) (ks : List ℕ) → P k → AllByRecursion P ks → AllByRecursion P (insert_key nat_cmp ks k)
+-- what holds of a key and of others holds of all after it is put in
+pub all_insert_key : (P : ℕ → Type 0) (k : ℕ) (ks : List ℕ) → P k → AllByRecursion P ks → AllByRecursion P (insert_key nat_cmp ks k)
 all_insert_key P k [] here rest = (here, tt)
 all_insert_key P k (x ∷ xs) here rest = go (nat_cmp k x) (all_insert_key P k xs here rest.1)
   where

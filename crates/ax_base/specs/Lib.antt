@@ -19,3 +19,6 @@ pub mod Kids
 pub mod Said
 pub mod References
 pub mod AccessibleNames
+pub mod IdMaps
+pub mod IdLends
+pub mod IdSets

@@ -88,19 +88,16 @@ impl Attrs {
     }
 
     /// Gives an attribute a value, in the place of the one that it has or at the end. At an error nothing changes.
-    pub fn set(&mut self, alloc: Global, name: &Text, value: Text) -> Result<(), NoMemory>
-        ensures ok { OnOk result (self.new ≡ with_value name.now value self.old) }
+    pub fn set(&mut self, name: Text, value: Text) -> Result<(), NoMemory>
+        ensures ok { OnOk result (self.new ≡ with_value name value self.old) }
         ensures err { OnErr result (self.new ≡ self.old) }
     {
-        match self.place_of(name) {
+        match self.place_of(&name) {
             Some(place) => {
                 self.items[place].value = value;
                 Ok(())
             }
-            None => self.push(Attr {
-                name: name.copy(alloc)?,
-                value,
-            }),
+            None => self.push(Attr { name, value }),
         }
     }
 
@@ -127,7 +124,7 @@ impl Attrs {
     pub fn copy(&self, alloc: Global) -> Result<Attrs, NoMemory>
         ensures { IfOk result (λ attrs. attrs ≡ self.now) }
     {
-        let mut items = Vec::new(alloc);
+        let mut items = Vec::with_capacity(alloc, self.items.len())?;
         for attr in &self.items {
             items.push(attr.copy(alloc)?)?;
         }

@@ -3,7 +3,10 @@
 
 mod attrs;
 mod body;
+mod dense;
 mod focusable;
+mod id_map;
+mod id_set;
 mod ids;
 mod lists;
 mod memory;
@@ -21,6 +24,8 @@ mod white;
 pub use attrs::{Attr, Attrs};
 pub use body::Body;
 pub use focusable::{has_conflict, has_counted, has_tab_index, is_control, is_field, is_focusable};
+pub use id_map::IdMap;
+pub use id_set::IdSet;
 pub use ids::{Moment, ObjId, Who};
 pub use lists::{Ids, Runs};
 pub use memory::NoMemory;
@@ -28,7 +33,7 @@ pub use notices::{Notice, NoticeKind, Notices};
 pub use pieces::first_token;
 pub use quote::push_quoted;
 pub use rect::{Rect, Run, contains_point, unite};
-pub use role::{Role, role_word};
+pub use role::{Role, all_roles_are_listed, role_word};
 pub use states::{Checked, Live, States};
 pub use steps::Steps;
 pub use text::{Text, cap512};

@@ -1,6 +1,8 @@
 //! Texts between quotes.
 ghost use Rattle.std.specs.Prelude.{◌≡◌, ◌<◌, ◌/◌, ◌%◌, ◌++◌, ◌∷◌, [], codes, OnOk, string_bytes};
-ghost use Rattle.ax_base.specs.Quoting.{hex_digit, quoted, quoted_char};
+ghost use Rattle.std.specs.List.{flat_map, list_all};
+ghost use Rattle.std.specs.Str.{chars};
+ghost use Rattle.ax_base.specs.Quoting.{hex_digit, quoted, quoted_char, stands_for_itself};
 
 use crate::NoMemory;
 use std::alloc::AllocError;
@@ -18,10 +20,38 @@ fn push_all(out: &mut String, text: &str) -> Result<(), AllocError>
     ensures { OnOk result (string_bytes out.new ≡ string_bytes out.old ++ quoted text.now) }
 {
     out.push('"')?;
+    push_inner(out, text)?;
+    out.push('"')?;
+    Ok(())
+}
+
+/// Adds what stands between the quotes: a text in which nothing is escaped in one piece.
+fn push_inner(out: &mut String, text: &str) -> Result<(), AllocError>
+    ensures { OnOk result (string_bytes out.new ≡ string_bytes out.old ++ flat_map quoted_char (chars text.now)) }
+{
+    if is_plain(text) {
+        out.push_str(text)?;
+        return Ok(());
+    }
+    push_each(out, text)
+}
+
+/// Whether nothing in a text is escaped.
+fn is_plain(text: &str) -> bool
+    ensures { result ≡ list_all stands_for_itself text.now }
+{
+    text.as_bytes()
+        .iter()
+        .all(|b| *b >= b' ' && *b != b'"' && *b != b'\\')
+}
+
+/// Adds what stands between the quotes, character by character.
+fn push_each(out: &mut String, text: &str) -> Result<(), AllocError>
+    ensures { OnOk result (string_bytes out.new ≡ string_bytes out.old ++ flat_map quoted_char (chars text.now)) }
+{
     for c in text.chars() {
         push_char(out, c)?;
     }
-    out.push('"')?;
     Ok(())
 }
 

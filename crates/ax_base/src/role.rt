@@ -1,5 +1,6 @@
 //! The roles of objects.
-ghost use Rattle.std.specs.Prelude.{◌≡◌};
+ghost use Rattle.std.specs.Prelude.{◌≡◌, Contains};
+ghost use Rattle.ax_base.specs.declared.role.Role.{Role};
 ghost use Rattle.ax_base.specs.RoleWords.{role_word};
 
 /// What an object is: the roles of WAI-ARIA 1.2 that are known here, each named by its word, and `Text` for a text.
@@ -89,6 +90,101 @@ pub enum Role {
     Treeitem,
     Text,
 }
+
+impl Role {
+    /// All roles, in the order of the enum.
+    pub const ALL: [Role; 82] = [
+        Role::Alert,
+        Role::Alertdialog,
+        Role::Application,
+        Role::Article,
+        Role::Banner,
+        Role::Blockquote,
+        Role::Button,
+        Role::Caption,
+        Role::Cell,
+        Role::Checkbox,
+        Role::Code,
+        Role::Columnheader,
+        Role::Combobox,
+        Role::Complementary,
+        Role::Contentinfo,
+        Role::Definition,
+        Role::Deletion,
+        Role::Dialog,
+        Role::Directory,
+        Role::Document,
+        Role::Emphasis,
+        Role::Feed,
+        Role::Figure,
+        Role::Form,
+        Role::Generic,
+        Role::Grid,
+        Role::Gridcell,
+        Role::Group,
+        Role::Heading,
+        Role::Img,
+        Role::Insertion,
+        Role::Link,
+        Role::List,
+        Role::Listbox,
+        Role::Listitem,
+        Role::Log,
+        Role::Main,
+        Role::Marquee,
+        Role::Math,
+        Role::Menu,
+        Role::Menubar,
+        Role::Menuitem,
+        Role::Menuitemcheckbox,
+        Role::Menuitemradio,
+        Role::Meter,
+        Role::Navigation,
+        Role::NoRole,
+        Role::Note,
+        Role::OptionItem,
+        Role::Paragraph,
+        Role::Progressbar,
+        Role::Radio,
+        Role::Radiogroup,
+        Role::Region,
+        Role::Row,
+        Role::Rowgroup,
+        Role::Rowheader,
+        Role::Scrollbar,
+        Role::Search,
+        Role::Searchbox,
+        Role::Separator,
+        Role::Slider,
+        Role::Spinbutton,
+        Role::Status,
+        Role::Strong,
+        Role::Subscript,
+        Role::Superscript,
+        Role::Switch,
+        Role::Tab,
+        Role::Table,
+        Role::Tablist,
+        Role::Tabpanel,
+        Role::Term,
+        Role::Textbox,
+        Role::Time,
+        Role::Timer,
+        Role::Toolbar,
+        Role::Tooltip,
+        Role::Tree,
+        Role::Treegrid,
+        Role::Treeitem,
+        Role::Text,
+    ];
+}
+
+/// Every role is in the list of all roles.
+///
+/// It is a law of the list, which this call carries.
+pub fn all_roles_are_listed()
+    ensures { (r : Role) → Contains Role.ALL r }
+{}
 
 /// The word of a role, as WAI-ARIA 1.2 spells it, and `text` for a text.
 pub fn role_word(role: Role) -> &'static str

@@ -74,7 +74,8 @@ impl Text {
     pub fn is(&self, s: &str) -> bool
         ensures { result ≡ bytes_eq self.now s.now }
     {
-        self.string.as_str() == s
+        let own = self.string.as_str();
+        own.len() == s.len() && own == s
     }
 
     /// Whether it has no character.

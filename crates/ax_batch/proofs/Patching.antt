@@ -14,7 +14,7 @@ use Rattle.ax_base.proofs.Joins.{Contains-cases}
 use Rattle.ax_base.proofs.Membership.{Contains-head, Contains-tail}
 use Rattle.ax_record.specs.declared.prop.PropValue.{PropValue}
 use Rattle.ax_record.specs.declared.record.Record.{Record}
-use Rattle.ax_record.specs.Tree.{Tree, entry_at, record_at, object_ids, has_object}
+use Rattle.ax_record.specs.Tree.{Tree, entry_at, record_at, object_ids, has_object, made_at}
 use Rattle.ax_record.specs.ObjectTrees.{IsObjectTree}
 use Rattle.ax_record.specs.Differences.{changed_props, with_props}
 use Rattle.std.proofs.lemmas.List.Kept.{AllPairs-from_increasing}
@@ -24,7 +24,7 @@ use Rattle.ax_record.proofs.Equalities.{option_equality}
 use Rattle.ax_record.proofs.TreeOf.{is_some-lookup}
 use Rattle.ax_batch.specs.declared.batch.Batch.{Batch}
 use Rattle.ax_batch.specs.declared.batch.Change.{Change}
-use Rattle.ax_batch.specs.Batches.{added_at, change_of, changed_at, removed_at, made_at, focus_change, batch_between, without, with_change, with_changes, with_added, patched, Fits}
+use Rattle.ax_batch.specs.Batches.{added_at, change_of, changed_at, removed_at, focus_change, batch_between, without, with_change, with_changes, with_added, patched, Fits}
 use Rattle.ax_batch.proofs.Entries.{Rise, rise_without, rise_with, rise_set, lookup_without}
 
 abbrev Entries : Type 0

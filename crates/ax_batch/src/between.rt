@@ -1,7 +1,8 @@
 //! The batch from one tree to another.
 ghost use Rattle.std.specs.Prelude.{◌≡◌, ◌++◌, IfOk, OnOk, option_copied};
 ghost use Rattle.std.specs.List.{flat_map};
-ghost use Rattle.ax_batch.specs.Batches.{added_at, changed_at, removed_at, made_at, change_of, focus_change, batch_between, patched, Fits};
+ghost use Rattle.ax_record.specs.Tree.{made_at};
+ghost use Rattle.ax_batch.specs.Batches.{added_at, changed_at, removed_at, change_of, focus_change, batch_between, patched, Fits};
 
 use crate::{Batch, Change, Changes, Records};
 use ax_base::{Ids, NoMemory, ObjId};

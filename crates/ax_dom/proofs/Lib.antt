@@ -1,3 +1,4 @@
+pub mod LongTexts
 pub mod Fitting
 pub mod Bounded
 pub mod RightRuns
@@ -19,3 +20,4 @@ pub mod Fresh
 pub mod Amended
 pub mod Focused
 pub mod Walks
+pub mod Counted

@@ -37,13 +37,13 @@ at_root : (d : Document) (t : IsTree d) (m : ℕ) → m ≡ root → Contains (l
 at_root d t m is = subst (λ xs. Contains xs root) (sym (ap (lineage d) is ∙ lineage-root d t)) (Contains-head root [])
 
 -- no element of a list passes a test that none passes
-list_any_member : (p : ℕ → Bool) (xs : List ℕ) (m : ℕ) → Contains xs m → list_any p xs ≡ false → p m ≡ false
+pub list_any_member : (p : ℕ → Bool) (xs : List ℕ) (m : ℕ) → Contains xs m → list_any p xs ≡ false → p m ≡ false
 list_any_member p [] m inside none = absurd (omega arith)
 list_any_member p (x ∷ xs) m inside none =
     let parts = or_parts (p x) (list_any p xs) none in
     elim (Contains-cons_cases x m xs inside) [ inl is ↦ ap p (sym is) ∙ parts.0 | inr more ↦ list_any_member p xs m more parts.1 ]
 
-root_above : (d : Document) (t : IsTree d) (l m : ℕ) → has d m ≡ true → t.level m ≤ l → Contains (lineage d m) root
+pub root_above : (d : Document) (t : IsTree d) (l m : ℕ) → has d m ≡ true → t.level m ≤ l → Contains (lineage d m) root
 root_above d t zero m there low = at_root d t m (elim (eqb_tells m root) [
   | inl (_, is) ↦ is
   | inr (_, below) ↦ (let place = t.hung m there below in let e = t.deeper place.0 m place.1 in absurd (omega arith))

@@ -1,5 +1,5 @@
 -- Rewriting one slot, and several.
-use Rattle.std.proofs.Common.{◌≡◌, ℕ, ◌+◌, ◌<◌, ◌||◌, List, length, take, get_or, Bool, true, false, cond, Option, Some, None, is_some, Contains, refl, sym, ap, ◌∙◌, eqb, arith}
+use Rattle.std.proofs.Common.{◌≡◌, ℕ, ◌+◌, ◌<◌, ◌||◌, List, length, take, get_or, Bool, true, false, cond, Option, Some, None, is_some, Contains, refl, sym, ap, subst, ◌∙◌, eqb, arith}
 use Rattle.std.specs.Prelude.{nat_eq}
 use Rattle.std.specs.List.{list_any}
 use Rattle.std.specs.Option.{option_map}
@@ -54,6 +54,10 @@ rewritten_missing es k G none = rewritten_nothing es (λ q x. cond (eqb k q) (G 
     go : (q : ℕ) (s : Slot) → slot_at es q ≡ Some s → (x : Bool) → eqb k q ≡ x → cond x (G s) s ≡ s
     go q s found true same = let gone : None ≡ Some s = none ∙ ap (slot_at es) (eqb-true k q same) ∙ found in cc
     go q s found false other = refl
+
+-- the same, where it is said of what comes out
+pub rewritten_none : (es fs : List (ℕ × Slot)) (k : ℕ) (G : Slot → Slot) → None ≡ slot_at es k → fs ≡ es → IsRewritten es fs (λ q x. cond (eqb k q) (G x) x)
+rewritten_none es fs k G none is = subst (λ gs. IsRewritten es gs (λ q x. cond (eqb k q) (G x) x)) (sym is) (rewritten_missing es k G none)
 
 -- one after the other
 pub rewritten_then : (es fs gs : List (ℕ × Slot)) (F G : ℕ → Slot → Slot) → IsRewritten es fs F → IsRewritten fs gs G → IsRewritten es gs (λ q x. G q (F q x))

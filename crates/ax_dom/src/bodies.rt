@@ -7,46 +7,49 @@ use ax_base::{Body, NoMemory, Rect, Runs, Text};
 use std::alloc::Global;
 
 /// Does an edit that changes a node alone. At an error nothing changes.
-pub fn amend_body(alloc: Global, body: &mut Body, e: &Edit) -> Result<(), NoMemory>
-    ensures ok { OnOk result (body.new ≡ body_after e.now body.old) }
+pub fn amend_body(alloc: Global, body: &mut Body, e: Edit) -> Result<(), NoMemory>
+    ensures ok { OnOk result (body.new ≡ body_after e body.old) }
     ensures err { OnErr result (body.new ≡ body.old) }
 {
     match e {
-        Edit::Chars { chars, .. } => set_chars(alloc, body, chars),
-        Edit::Set { name, value, .. } => set_attr(alloc, body, name, value),
-        Edit::Unset { name, .. } => {
-            unset_attr(body, name);
+        Edit::Chars { chars, .. } => {
+            set_chars(alloc, body, chars);
             Ok(())
         }
-        Edit::SetRuns { runs, .. } => set_runs(alloc, body, runs),
+        Edit::Set { name, value, .. } => set_attr(body, name, value),
+        Edit::Unset { name, .. } => {
+            unset_attr(body, &name);
+            Ok(())
+        }
+        Edit::SetRuns { runs, .. } => {
+            set_runs(body, runs);
+            Ok(())
+        }
         Edit::Frame { rect, .. } => {
-            set_frame(body, *rect);
+            set_frame(body, rect);
             Ok(())
         }
         _ => Ok(()),
     }
 }
 
-/// Gives a text other characters, and takes its runs away. At an error nothing changes.
-fn set_chars(alloc: Global, body: &mut Body, new: &Text) -> Result<(), NoMemory>
-    ensures ok { OnOk result (body.new ≡ with_chars new.now body.old) }
-    ensures err { OnErr result (body.new ≡ body.old) }
+/// Gives a text other characters, and takes its runs away.
+fn set_chars(alloc: Global, body: &mut Body, new: Text)
+    ensures { body.new ≡ with_chars new body.old }
 {
     if let Body::Words { chars, runs } = body {
-        *chars = new.copy(alloc)?;
+        *chars = new;
         *runs = Runs::new(alloc);
     }
-    Ok(())
 }
 
 /// Gives an attribute of an element a value. At an error nothing changes.
-fn set_attr(alloc: Global, body: &mut Body, name: &Text, value: &Text) -> Result<(), NoMemory>
-    ensures ok { OnOk result (body.new ≡ with_attr name.now value.now body.old) }
+fn set_attr(body: &mut Body, name: Text, value: Text) -> Result<(), NoMemory>
+    ensures ok { OnOk result (body.new ≡ with_attr name value body.old) }
     ensures err { OnErr result (body.new ≡ body.old) }
 {
     if let Body::Element { attrs, .. } = body {
-        let value = value.copy(alloc)?;
-        attrs.set(alloc, name, value)?;
+        attrs.set(name, value)?;
     }
     Ok(())
 }
@@ -60,15 +63,13 @@ fn unset_attr(body: &mut Body, name: &Text)
     }
 }
 
-/// Gives a text other runs. At an error nothing changes.
-fn set_runs(alloc: Global, body: &mut Body, new: &Runs) -> Result<(), NoMemory>
-    ensures ok { OnOk result (body.new ≡ with_runs new.now body.old) }
-    ensures err { OnErr result (body.new ≡ body.old) }
+/// Gives a text other runs.
+fn set_runs(body: &mut Body, new: Runs)
+    ensures { body.new ≡ with_runs new body.old }
 {
     if let Body::Words { runs, .. } = body {
-        *runs = new.copy(alloc)?;
+        *runs = new;
     }
-    Ok(())
 }
 
 /// Gives an element another frame.

@@ -113,10 +113,11 @@ impl Dom {
         ensures refused { IfErr result (λ cause. edit_cause self.old e.now ≡ (if is_no_memory cause then None else Some cause)) }
         ensures err { OnErr result (self.new ≡ self.old) }
     {
-        if let Some(cause) = self.edit_cause(e) {
+        if let Some(cause) = self.cause_of(e) {
             return Err(cause);
         }
-        self.carry_out(alloc, e)?;
+        let edit = e.copy(alloc)?;
+        self.apply_accepted(alloc, edit)?;
         Ok(())
     }
 

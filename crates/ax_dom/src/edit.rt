@@ -1,5 +1,8 @@
 //! The edits of a document.
-use ax_base::{Attrs, ObjId, Rect, Runs, Text};
+ghost use Rattle.std.specs.Prelude.{◌≡◌, IfOk};
+
+use ax_base::{Attrs, NoMemory, ObjId, Rect, Runs, Text};
+use std::alloc::Global;
 
 /// An edit of a document.
 #[derive(Drop)]
@@ -55,4 +58,66 @@ pub enum Edit {
     },
     /// The focused node, or none.
     Focus(Option<ObjId>),
+}
+
+impl Edit {
+    /// An equal edit.
+    pub fn copy(&self, alloc: Global) -> Result<Edit, NoMemory>
+        ensures { IfOk result (λ e. e ≡ self.now) }
+    {
+        match self {
+            Edit::InsertElement {
+                id,
+                into,
+                before,
+                tag,
+                attrs,
+            } => Ok(Edit::InsertElement {
+                id: *id,
+                into: *into,
+                before: *before,
+                tag: tag.copy(alloc)?,
+                attrs: attrs.copy(alloc)?,
+            }),
+            Edit::InsertText {
+                id,
+                into,
+                before,
+                chars,
+            } => Ok(Edit::InsertText {
+                id: *id,
+                into: *into,
+                before: *before,
+                chars: chars.copy(alloc)?,
+            }),
+            Edit::Remove(id) => Ok(Edit::Remove(*id)),
+            Edit::Move { id, into, before } => Ok(Edit::Move {
+                id: *id,
+                into: *into,
+                before: *before,
+            }),
+            Edit::Set { id, name, value } => Ok(Edit::Set {
+                id: *id,
+                name: name.copy(alloc)?,
+                value: value.copy(alloc)?,
+            }),
+            Edit::Unset { id, name } => Ok(Edit::Unset {
+                id: *id,
+                name: name.copy(alloc)?,
+            }),
+            Edit::Chars { id, chars } => Ok(Edit::Chars {
+                id: *id,
+                chars: chars.copy(alloc)?,
+            }),
+            Edit::SetRuns { id, runs } => Ok(Edit::SetRuns {
+                id: *id,
+                runs: runs.copy(alloc)?,
+            }),
+            Edit::Frame { id, rect } => Ok(Edit::Frame {
+                id: *id,
+                rect: *rect,
+            }),
+            Edit::Focus(id) => Ok(Edit::Focus(*id)),
+        }
+    }
 }

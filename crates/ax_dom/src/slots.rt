@@ -15,15 +15,14 @@ ghost use Rattle.ax_dom.specs.Rewrites.{IsRewritten, taken_out, with_list, with_
 use crate::bodies::amend_body;
 use crate::cell::Slot;
 use crate::edit::Edit;
-use ax_base::{Ids, NoMemory, ObjId};
+use ax_base::{IdMap, Ids, NoMemory, ObjId};
 use std::alloc::Global;
-use std::collections::BTreeMap;
 use std::marker::Model;
 
 /// The nodes of the document by their ids. A clause sees them as a list by rising id.
 #[derive(Drop)]
 pub struct Slots {
-    map: BTreeMap<u32, Slot>,
+    map: IdMap<Slot>,
 }
 
 impl Model for Slots {
@@ -32,7 +31,7 @@ impl Model for Slots {
 
     ghost Value = { List (ℕ × Slot) };
 
-    ghost view = { λ a. a.map.entries };
+    ghost view = { λ a. a.map };
 }
 
 impl Slots {
@@ -41,7 +40,7 @@ impl Slots {
         ensures { result ≡ [] }
     {
         Slots {
-            map: BTreeMap::new(alloc),
+            map: IdMap::new(alloc),
         }
     }
 
@@ -49,14 +48,14 @@ impl Slots {
     pub fn get(&self, id: ObjId) -> Option<&Slot>
         ensures { option_copied result ≡ slot_at self.now id }
     {
-        self.map.get(&id.0)
+        self.map.get(id)
     }
 
     /// Whether there is a node of an id.
     pub fn has(&self, id: ObjId) -> bool
         ensures { result ≡ is_some (slot_at self.now id) }
     {
-        self.map.contains_key(&id.0)
+        self.map.has(id)
     }
 
     /// Adds a node. At an error nothing changes.
@@ -64,15 +63,14 @@ impl Slots {
         ensures ok { OnOk result (self.new ≡ insert_entry nat_cmp self.old id slot) }
         ensures err { OnErr result (self.new ≡ self.old) }
     {
-        self.map.insert(id.0, slot)?;
-        Ok(())
+        self.map.put(id, slot)
     }
 
     /// Takes a node away.
     pub fn remove(&mut self, id: ObjId)
         ensures { self.new ≡ remove_entry (is_at (nat_cmp id)) self.old }
     {
-        self.map.remove(&id.0);
+        self.map.remove(id);
     }
 
     /// Adds a node among the children of another. At an error nothing changes.
@@ -104,19 +102,19 @@ impl Slots {
         ensures ok { OnOk result ((s : Slot) → slot_at self.old into ≡ Some s → self.new ≡ set_value (is_at (nat_cmp into)) self.old (record s { children = placed before.now id s.children })) }
         ensures err { OnErr result (self.new ≡ self.old) }
     {
-        if let Some(slot) = self.map.get_mut(&into.0) {
+        if let Some(slot) = self.map.get_mut(into) {
             place_among(&mut slot.children, before, id)?;
         }
         Ok(())
     }
 
     /// Does an edit that changes a node alone. At an error nothing changes.
-    pub fn amend(&mut self, alloc: Global, id: ObjId, e: &Edit) -> Result<(), NoMemory>
+    pub fn amend(&mut self, alloc: Global, id: ObjId, e: Edit) -> Result<(), NoMemory>
         requires { IsSome (slot_at self.old id) }
-        ensures ok { OnOk result ((s : Slot) → slot_at self.old id ≡ Some s → self.new ≡ set_value (is_at (nat_cmp id)) self.old (slot_after e.now s)) }
+        ensures ok { OnOk result ((s : Slot) → slot_at self.old id ≡ Some s → self.new ≡ set_value (is_at (nat_cmp id)) self.old (slot_after e s)) }
         ensures err { OnErr result (self.new ≡ self.old) }
     {
-        if let Some(slot) = self.map.get_mut(&id.0) {
+        if let Some(slot) = self.map.get_mut(id) {
             amend_body(alloc, &mut slot.cell.body, e)?;
         }
         Ok(())
@@ -127,7 +125,7 @@ impl Slots {
         ensures { IsRewritten self.old self.new (taken_out from.now id) }
     {
         if let Some(parent) = from {
-            if let Some(slot) = self.map.get_mut(&parent.0) {
+            if let Some(slot) = self.map.get_mut(*parent) {
                 slot.children.take_out(id);
             }
         }
@@ -137,7 +135,7 @@ impl Slots {
     pub fn set_children(&mut self, id: ObjId, list: Ids)
         ensures { IsRewritten self.old self.new (with_list id list) }
     {
-        if let Some(slot) = self.map.get_mut(&id.0) {
+        if let Some(slot) = self.map.get_mut(id) {
             slot.children = list;
         }
     }
@@ -146,7 +144,7 @@ impl Slots {
     pub fn set_parent(&mut self, id: ObjId, parent: ObjId)
         ensures { IsRewritten self.old self.new (with_parent id parent) }
     {
-        if let Some(slot) = self.map.get_mut(&id.0) {
+        if let Some(slot) = self.map.get_mut(id) {
             slot.cell.parent = Some(parent);
         }
     }
@@ -167,7 +165,7 @@ impl Slots {
         requires { base < 1000 }
         ensures { IsRewritten self.old self.new (lifted_at id base top) }
     {
-        if let Some(slot) = self.map.get_mut(&id.0) {
+        if let Some(slot) = self.map.get_mut(id) {
             let below = u32::from(slot.cell.depth).saturating_sub(top).min(64);
             slot.cell.depth = (base + below).min(64) as u8;
         }

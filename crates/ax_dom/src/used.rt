@@ -1,28 +1,30 @@
 //! The ids that were ever inserted.
-ghost use Rattle.std.specs.Prelude.{◌≡◌, length, OnOk, OnErr, []};
+ghost use Rattle.std.specs.Prelude.{◌≡◌, length, false, OnOk, OnErr, []};
 ghost use Rattle.std.specs.List.{list_any};
 ghost use Rattle.std.specs.Ordering.{nat_cmp};
 ghost use Rattle.std.specs.BTreeMap.{is_at};
 ghost use Rattle.std.specs.BTreeSet.{insert_key};
 ghost use Rattle.std.specs.Set.{remove_key};
 
-use ax_base::{NoMemory, ObjId};
+use ax_base::{IdSet, NoMemory, ObjId};
 use std::alloc::Global;
-use std::collections::BTreeSet;
 use std::marker::Model;
 
 /// The ids that were ever inserted. A clause sees them as the rising list of their numbers.
 #[derive(Drop)]
 pub struct UsedIds {
-    set: BTreeSet<u32>,
+    ids: IdSet,
+    count: usize,
 }
 
 impl Model for UsedIds {
-    ghost use Rattle.std.specs.Prelude.{List, ℕ};
+    ghost use Rattle.std.specs.Prelude.{◌≡◌, List, ℕ, length};
 
     ghost Value = { List ℕ };
 
-    ghost view = { λ a. a.set.keys };
+    ghost view = { λ a. a.ids };
+
+    ghost invariant = { λ a. a.count ≡ length a.ids };
 }
 
 impl UsedIds {
@@ -31,7 +33,8 @@ impl UsedIds {
         ensures { result ≡ [] }
     {
         UsedIds {
-            set: BTreeSet::new(alloc),
+            ids: IdSet::new(alloc),
+            count: 0,
         }
     }
 
@@ -39,22 +42,27 @@ impl UsedIds {
     pub fn has(&self, id: ObjId) -> bool
         ensures { result ≡ list_any (is_at (nat_cmp id)) self.now }
     {
-        self.set.contains(&id.0)
+        self.ids.has(id)
     }
 
     /// How many ids were inserted.
     pub fn len(&self) -> usize
         ensures { result ≡ length self.now }
     {
-        self.set.len()
+        self.count
     }
 
     /// Adds an id. At an error nothing changes.
     pub fn add(&mut self, id: ObjId) -> Result<(), NoMemory>
+        requires { list_any (is_at (nat_cmp id)) self.old ≡ false }
         ensures ok { OnOk result (self.new ≡ insert_key nat_cmp self.old id) }
         ensures err { OnErr result (self.new ≡ self.old) }
     {
-        self.set.insert(id.0)?;
+        let Some(count) = self.count.checked_add(1) else {
+            return Err(NoMemory);
+        };
+        self.ids.add(id)?;
+        self.count = count;
         Ok(())
     }
 
@@ -62,6 +70,9 @@ impl UsedIds {
     pub fn remove(&mut self, id: ObjId)
         ensures { self.new ≡ remove_key (is_at (nat_cmp id)) self.old }
     {
-        self.set.remove(&id.0);
+        if self.ids.has(id) {
+            self.ids.remove(id);
+            self.count -= 1;
+        }
     }
 }

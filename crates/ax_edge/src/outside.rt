@@ -4,7 +4,8 @@ ghost use Rattle.std.specs.Io.{ReadsAtMost, WritesAtMost};
 ghost use Rattle.std.specs.Io.KnownBytes.{ReadConsumes, WriteAppends};
 ghost use Rattle.ax_edge.specs.Causes.{HasCause, TakesSome};
 
-/// The outside refused a read or a write. It comes only where the count of faults rose in that call.
+/// The outside refused a read or a write. It comes only where the count of faults rose in that call, and a call that
+/// succeeds leaves the count as it was.
 #[derive(Clone, Copy, Debug, PartialEq, Eq)]
 pub struct Failed;
 

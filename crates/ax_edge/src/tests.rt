@@ -9,7 +9,7 @@ use crate::{
 use ax_base::Who;
 use std::alloc::Global;
 use std::io;
-use std::io::{ErrorKind, Write};
+use std::io::{ErrorKind, Read, Write};
 use std::sync::Wait;
 use std::test::Fail;
 
@@ -61,6 +61,30 @@ fn std_source_reads_in_pieces(rt: HostRuntime) {
     assert_eq!(rt; source.read(&mut buf), Ok(3));
     assert_eq!(rt; &buf[..3], &b"n!!"[..]);
     assert_eq!(rt; source.read(&mut buf), Ok(0));
+}
+
+/// A reader that fails its first read, and gives three bytes at each read after it.
+#[derive(Drop)]
+struct Unsteady {
+    failed: bool,
+}
+
+impl Read for Unsteady {
+    fn read(&mut self, buf: &mut [u8]) -> io::Result<usize> {
+        if !self.failed {
+            self.failed = true;
+            return Err(ErrorKind::Other.into());
+        }
+        Ok(buf.len().min(3))
+    }
+}
+
+#[test]
+fn std_source_tells_a_fault_before_it_reads_on(rt: HostRuntime) {
+    let mut source = StdSource::new(Unsteady { failed: false });
+    let mut buf = [0u8; 4];
+    assert_eq!(rt; source.read(&mut buf), Err(Failed));
+    assert_eq!(rt; source.read(&mut buf), Ok(3));
 }
 
 #[test]

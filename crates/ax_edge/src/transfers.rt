@@ -40,6 +40,7 @@ pub fn read_input<I: Source>(
     ensures within { IfOk result (λ input. length input.items ≤ most) }
     ensures err { OnErr result (TakesFront most (I.left source.old) (I.left source.new)) }
     ensures later { I.faults source.old ≤ I.faults source.new }
+    ensures kept { OnOk result (I.faults source.new ≡ I.faults source.old) }
     ensures failed { IsErrOf result ReadError.Failed →
         Rose (I.faults source.old) (I.faults source.new) }
 {
@@ -74,6 +75,7 @@ fn fill<I: Source>(
     ensures within { OnOk result (length input.new.items ≤ most) }
     ensures err { OnErr result (TakesFront most (I.left source.old) (I.left source.new)) }
     ensures later { I.faults source.old ≤ I.faults source.new }
+    ensures kept { OnOk result (I.faults source.new ≡ I.faults source.old) }
     ensures failed { IsErrOf result ReadError.Failed →
         Rose (I.faults source.old) (I.faults source.new) }
 {

@@ -6,6 +6,8 @@ mod focus;
 mod frames;
 #[cfg(test)]
 mod tests;
+mod uncounted;
 mod walk;
 
+pub use uncounted::tree_of;
 pub use walk::build;

@@ -22,7 +22,7 @@ use ax_roles::{node_hides, node_is_ignored, node_role, prunes};
 use std::alloc::Global;
 use std::sync::ledger::Ledger;
 
-/// The tree of a document. It takes one walk that makes the records, after one that indexes the ids.
+/// The tree of a document. It takes one walk that makes the records, and at the first reference one that indexes the ids.
 pub fn build<L: Ledger>(
     alloc: Global,
     dom: &Dom,
@@ -30,7 +30,7 @@ pub fn build<L: Ledger>(
 ) -> Result<FreshTree, NoMemory>
     ensures { IfOk result (λ t. t ≡ tree dom.now) }
 {
-    let mut names = Names::new(alloc, dom, steps)?;
+    let mut names = Names::new(alloc);
     let mut records = RecordMap::new(alloc);
     put_root(alloc, dom, &mut names, &mut records, steps)?;
     let focus = focused_object(dom, &records, steps);

@@ -13,3 +13,4 @@ mod Firsts
 mod Showing
 mod Calling
 mod Whole
+pub mod Evenly

@@ -1,5 +1,5 @@
 -- Pieces of a name: what is kept of a text that is joined from many, so that it is flat and cut as it is made.
-use Rattle.std.specs.Prelude.{Bool, true, false, not, ◌&&◌, ◌||◌, if◌then◌else◌, nat_lt, List, [], ◌∷◌, ◌++◌}
+use Rattle.std.specs.Prelude.{ℕ, Bool, true, false, not, ◌&&◌, ◌||◌, ◌==◌, if◌then◌else◌, nat_lt, List, [], ◌∷◌, ◌++◌}
 use Rattle.std.specs.List.{flat_map}
 use Rattle.std.specs.Fmt.{char_count}
 use Rattle.ax_base.specs.Characters.{Chars, is_white, flat, cut}
@@ -31,6 +31,15 @@ abbrev pub ends_white : Chars → Bool
 ends_white [] = false
 ends_white (c ∷ []) = is_white c
 ends_white (c ∷ d ∷ ds) = ends_white (d ∷ ds)
+
+-- whether a byte is an ASCII character that is neither white space nor a control
+abbrev pub is_ink : ℕ → Bool
+is_ink b = nat_lt 32 b && nat_lt b 128
+
+-- whether a text is words of such characters with one space between each two; `parted` says that white space came before it
+abbrev pub evenly_spaced : Bool → Chars → Bool
+evenly_spaced parted [] = not parted
+evenly_spaced parted (b ∷ bs) = if b == 32 then not parted && evenly_spaced true bs else is_ink b && evenly_spaced false bs
 
 -- whether a text has more than 512 characters
 abbrev pub is_longer : Chars → Bool

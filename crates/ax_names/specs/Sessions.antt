@@ -1,5 +1,6 @@
 -- What is looked up and kept while the names of one document are made.
 use Rattle.std.specs.Prelude.{ℕ, Bool, not, ◌&&◌, if◌then◌else◌, List, [], take, map, codes}
+use Rattle.std.specs.Option.{IfSome}
 use Rattle.ax_base.specs.declared.attrs.Attr.{Attr}
 use Rattle.ax_base.specs.declared.role.Role.{Role}
 use Rattle.ax_base.specs.Characters.{Chars, is_blank, tokens, flat, cut, joined_by_spaces}
@@ -13,9 +14,9 @@ use Rattle.ax_names.specs.Memos.{Keeps}
 use Rattle.ax_names.specs.Targets.{AreTargetsOf}
 use Rattle.ax_names.specs.OwnTexts.{said_or, title_said, element_called}
 
--- the look-ups are those of a document, and what is kept is what its nodes say
+-- the look-ups, if they were made, are those of a document, and what is kept is what its nodes say
 pub record AreNamesOf (d : Document) (s : Names) : Type 0 where
-  pub targets : AreTargetsOf d s.targets
+  pub targets : IfSome s.targets (AreTargetsOf d)
   pub referred : Keeps (referred_node d) s.referred
   pub contents : Keeps (content_text d) s.contents
 

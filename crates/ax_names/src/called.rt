@@ -228,13 +228,18 @@ fn labelled<L: Ledger>(
 {
     pieces_tell();
     let mut said = Piece::empty(alloc);
-    let Some(first) = names.targets.first(text) else {
+    if text.is_empty() {
+        return Ok(said);
+    }
+    let found = names.first(alloc, dom, text, steps)?;
+    let Some(first) = found else {
         return Ok(said);
     };
     if first != id {
         return Ok(said);
     }
-    let Some(label) = names.targets.label(text) else {
+    let labels = names.label(alloc, dom, text, steps)?;
+    let Some(label) = labels else {
         return Ok(said);
     };
     push_node(alloc, dom, names, label, &mut said, steps)?;

@@ -10,8 +10,8 @@ use ax_roles::node_role;
 use std::alloc::Global;
 use std::sync::ledger::Ledger;
 
-/// The accessible name of a node, flattened and cut at 512 characters (AccName 1.2, section 4.1). It indexes the ids of the
-/// document; where many nodes are asked for, `Names` does that once.
+/// The accessible name of a node, flattened and cut at 512 characters (AccName 1.2, section 4.1). At a reference it
+/// indexes the ids of the document; where many nodes are asked for, `Names` does that once.
 pub fn name_of<L: Ledger>(
     alloc: Global,
     dom: &Dom,
@@ -24,12 +24,12 @@ pub fn name_of<L: Ledger>(
     let Some(cell) = dom.cell(id, steps) else {
         return Ok(Text::new(alloc));
     };
-    let mut names = Names::new(alloc, dom, steps)?;
+    let mut names = Names::new(alloc);
     names.name_of(alloc, dom, cell, node_role(cell.id, &cell.body), steps)
 }
 
-/// The accessible description of a node, flattened and cut at 512 characters (AccName 1.2, section 4.2). It indexes the ids of
-/// the document; where many nodes are asked for, `Names` does that once.
+/// The accessible description of a node, flattened and cut at 512 characters (AccName 1.2, section 4.2). At a reference
+/// it indexes the ids of the document; where many nodes are asked for, `Names` does that once.
 pub fn description_of<L: Ledger>(
     alloc: Global,
     dom: &Dom,
@@ -42,6 +42,6 @@ pub fn description_of<L: Ledger>(
     let Some(cell) = dom.cell(id, steps) else {
         return Ok(Text::new(alloc));
     };
-    let mut names = Names::new(alloc, dom, steps)?;
+    let mut names = Names::new(alloc);
     names.description_of(alloc, dom, cell, node_role(cell.id, &cell.body), steps)
 }

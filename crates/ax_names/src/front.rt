@@ -1,7 +1,7 @@
 //! The first characters of what is put together.
-ghost use Rattle.std.specs.Prelude.{◌≡◌, ◌||◌, [], IfOk, OnOk, encode_utf8};
+ghost use Rattle.std.specs.Prelude.{◌≡◌, ◌||◌, true, [], IfOk, OnOk, encode_utf8};
 ghost use Rattle.ax_base.specs.Characters.{flat};
-ghost use Rattle.ax_names.specs.Pieces.{is_empty, begins_white, opening_of, followed, and_more, space_behind, spaced};
+ghost use Rattle.ax_names.specs.Pieces.{is_empty, begins_white, is_ink, evenly_spaced, opening_of, followed, and_more, space_behind, spaced};
 
 use ax_base::{NoMemory, Text};
 use std::alloc::Global;
@@ -158,8 +158,44 @@ impl Front {
         Ok(())
     }
 
-    /// Puts a text in, made flat, where white space came before it or not. It reads no further once nothing changes any more.
+    /// Puts a text in, made flat, where white space came before it or not.
     pub fn put_flat(&mut self, white: bool, text: &str) -> Result<(), NoMemory>
+        ensures { OnOk result (self.new ≡ followed self.old (spaced self.old.words (white || begins_white text.now) (flat text.now))) }
+    {
+        if is_evenly_spaced(text) {
+            self.put_even(white, text)
+        } else {
+            self.put_uneven(white, text)
+        }
+    }
+
+    /// Puts a text in that is flat already, behind a space where white space came between.
+    fn put_even(&mut self, white: bool, text: &str) -> Result<(), NoMemory>
+        requires { evenly_spaced true text.now ≡ true }
+        ensures { OnOk result (self.new ≡ followed self.old (spaced self.old.words white text.now)) }
+    {
+        self.put_gap(white)?;
+        self.put_ascii(text)
+    }
+
+    /// Puts a text in that is flat already, at once where it fits.
+    fn put_ascii(&mut self, text: &str) -> Result<(), NoMemory>
+        requires { evenly_spaced true text.now ≡ true }
+        ensures { OnOk result (self.new ≡ followed self.old text.now) }
+    {
+        if self.more {
+            return Ok(());
+        }
+        if text.len() <= MOST - self.count {
+            self.string.push_str(text)?;
+            self.count += text.len();
+            return Ok(());
+        }
+        self.put_str(text)
+    }
+
+    /// Puts a text in, made flat character by character. It reads no further once nothing changes any more.
+    fn put_uneven(&mut self, white: bool, text: &str) -> Result<(), NoMemory>
         ensures { OnOk result (self.new ≡ followed self.old (spaced self.old.words (white || begins_white text.now) (flat text.now))) }
     {
         // A look at a field: what always holds of the fields is known from here on.
@@ -186,4 +222,31 @@ impl Front {
         self.put_gap(white)?;
         self.put(c)
     }
+}
+
+/// Whether a text is ASCII and flat already: words with one space between each two, and no other white space.
+fn is_evenly_spaced(text: &str) -> bool
+    ensures { result ≡ evenly_spaced true text.now }
+{
+    let mut parted = true;
+    for b in text.as_bytes() {
+        if *b == b' ' {
+            if parted {
+                return false;
+            }
+            parted = true;
+        } else if is_ink(*b) {
+            parted = false;
+        } else {
+            return false;
+        }
+    }
+    !parted
+}
+
+/// Whether a byte is an ASCII character that is neither white space nor a control.
+fn is_ink(b: u8) -> bool
+    ensures { result ≡ is_ink b }
+{
+    b > b' ' && b < 128
 }

@@ -75,7 +75,8 @@ fn push_token<L: Ledger>(
 {
     pieces_tell();
     into.push(" ")?;
-    match names.targets.first(token) {
+    let found = names.first(alloc, dom, token, steps)?;
+    match found {
         Some(id) => push_node(alloc, dom, names, id, into, steps),
         None => Ok(()),
     }

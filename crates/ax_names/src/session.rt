@@ -1,9 +1,11 @@
 //! What is looked up and kept while the names of one document are made.
-ghost use Rattle.std.specs.Prelude.{IfOk};
+ghost use Rattle.std.specs.Prelude.{◌≡◌, IfOk, OnOk};
+ghost use Rattle.ax_base.specs.Document.{Document, target};
+ghost use Rattle.ax_base.specs.AccessibleNames.{first_label};
 
 use crate::memo::Memo;
 use crate::targets::Targets;
-use ax_base::{NoMemory, Steps};
+use ax_base::{NoMemory, ObjId, Steps};
 use ax_dom::Dom;
 use std::alloc::Global;
 use std::sync::ledger::Ledger;
@@ -14,7 +16,7 @@ use std::sync::ledger::Ledger;
 /// Where a call has no memory left, it is of no more use.
 #[derive(Drop)]
 pub struct Names {
-    pub(crate) targets: Targets,
+    pub(crate) targets: Option<Targets>,
     pub(crate) referred: Memo,
     pub(crate) contents: Memo,
 }
@@ -22,14 +24,56 @@ pub struct Names {
 impl Names {
     ghost use Rattle.ax_names.specs.Sessions.{AreNamesOf};
 
-    /// Nothing is kept yet of what nodes say, and the ids of the document are indexed, in one walk.
-    pub fn new<L: Ledger>(alloc: Global, dom: &Dom, steps: &mut Steps<L>) -> Result<Names, NoMemory>
-        ensures { IfOk result (λ s. AreNamesOf dom.now s) }
+    /// Nothing is looked up or kept yet. It takes no memory.
+    pub fn new(alloc: Global) -> Names
+        ensures { (d : Document) → AreNamesOf d result }
     {
-        Ok(Names {
-            targets: Targets::new(alloc, dom, steps)?,
+        Names {
+            targets: None,
             referred: Memo::new(alloc),
             contents: Memo::new(alloc),
-        })
+        }
+    }
+
+    /// The first element with that id, in tree order. The first call of this or of `label` indexes the ids of the document, in one walk.
+    pub(crate) fn first<L: Ledger>(
+        &mut self,
+        alloc: Global,
+        dom: &Dom,
+        id: &str,
+        steps: &mut Steps<L>,
+    ) -> Result<Option<ObjId>, NoMemory>
+        requires { AreNamesOf dom.now self.old }
+        ensures value { IfOk result (λ found. found ≡ target dom.now id.now) }
+        ensures names { OnOk result (AreNamesOf dom.now self.new) }
+    {
+        if let Some(targets) = &self.targets {
+            return Ok(targets.first(id));
+        }
+        let targets = Targets::new(alloc, dom, steps)?;
+        let found = targets.first(id);
+        self.targets = Some(targets);
+        Ok(found)
+    }
+
+    /// The first `label` for that id, in tree order.
+    pub(crate) fn label<L: Ledger>(
+        &mut self,
+        alloc: Global,
+        dom: &Dom,
+        id: &str,
+        steps: &mut Steps<L>,
+    ) -> Result<Option<ObjId>, NoMemory>
+        requires { AreNamesOf dom.now self.old }
+        ensures value { IfOk result (λ found. found ≡ first_label dom.now id.now) }
+        ensures names { OnOk result (AreNamesOf dom.now self.new) }
+    {
+        if let Some(targets) = &self.targets {
+            return Ok(targets.label(id));
+        }
+        let targets = Targets::new(alloc, dom, steps)?;
+        let found = targets.label(id);
+        self.targets = Some(targets);
+        Ok(found)
     }
 }

@@ -19,15 +19,13 @@ use Rattle.ax_base.proofs.Membership.{Contains-head, Contains-tail}
 use Rattle.ax_record.specs.declared.prop.PropValue.{PropValue}
 use Rattle.ax_base.proofs.Lookups.{finds, found_is}
 use Rattle.ax_record.specs.declared.record.Record.{Record}
-use Rattle.ax_record.specs.Tree.{Tree, record_at, object_ids, has_object, kids_of, IsKid}
+use Rattle.ax_record.specs.Tree.{Tree, record_at, object_ids, has_object, kids_of, IsKid, made_at}
 use Rattle.ax_record.specs.ObjectTrees.{IsObjectTree}
 use Rattle.ax_record.specs.Differences.{changed_props}
 use Rattle.ax_base.proofs.Rising.{Rises, rises_from, among}
 use Rattle.ax_record.proofs.TakenOver.{same_self, same_record}
 use Rattle.ax_record.proofs.Equalities.{list_equality, option_equality, bool_equality, checked_equality}
 use Rattle.ax_record.proofs.Walking.{id_there, there_id}
-use Rattle.ax_batch.specs.Batches.{made_at, batch_between, added_at, changed_at, change_of}
-use Rattle.ax_batch.specs.declared.batch.Change.{Change}
 use Rattle.ax_notice.specs.Notices.{notice, is_same_in, told_at, kind_notices, told_kinds, text_of, leaf_of, leaf_at, leaves_from, leaf_texts, live_above, is_region, live_at, focus_notice, notices_among, notices_between}
 use Rattle.ax_notice.specs.Candidates.{AreCandidates}
 use Rattle.ax_record.specs.declared.prop.Prop.TheVariants.{Name as TheName, Value as TheValue, Kids as TheKids}
@@ -50,25 +48,6 @@ none_told j kind (Some r) n = ap (λ c. cond c [] (notice j kind n ∷ [])) (non
 none_lacked : (j : ℕ) (kind : NoticeKind) (o : Option Record) (n : ℕ) → told_at j kind o None n ≡ []
 none_lacked j kind None n = refl
 none_lacked j kind (Some r) n = refl
-
--- what is made of one id is in the whole
-made_in : {Y : Type 0} (f : ℕ → List Y) (ks : List ℕ) (n : ℕ) (y : Y) → Contains ks n → Contains (f n) y → Contains (flat_map f ks) y
-made_in f [] n y inside here = absurd (omega arith)
-made_in f (k ∷ ks) n y inside here = elim (Contains-cases n k ks inside) [
-  | inl is ↦ in_first (f k) (flat_map f ks) y (subst (λ m. Contains (f m) y) (sym is) here)
-  | inr more ↦ in_rest (f k) (flat_map f ks) y (made_in f ks n y more here)
-]
-  where
-    in_rest : {Y : Type 0} (xs ys : List Y) (y : Y) → Contains ys y → Contains (xs ++ ys) y
-    in_rest [] ys y inside = inside
-    in_rest (x ∷ xs) ys y inside = Contains-tail x y (xs ++ ys) (in_rest xs ys y inside)
-
-    in_first : {Y : Type 0} (xs ys : List Y) (y : Y) → Contains xs y → Contains (xs ++ ys) y
-    in_first [] ys y inside = absurd (omega arith)
-    in_first (x ∷ xs) ys y inside = elim (Contains-cases y x xs inside) [
-      | inl is ↦ subst (Contains ((x ∷ xs) ++ ys)) is (Contains-head x (xs ++ ys))
-      | inr more ↦ Contains-tail x y (xs ++ ys) (in_first xs ys y more)
-    ]
 
 module _ (a b : Tree) (tb : IsObjectTree b) (ns : List ℕ) (c : AreCandidates a b ns) where
   -- an object that is no candidate
@@ -163,22 +142,3 @@ module _ (a b : Tree) (tb : IsObjectTree b) (ns : List ℕ) (c : AreCandidates a
   -- the notices of candidates are all notices
   pub notices_of_candidates : (j : ℕ) → notices_between a b j ≡ notices_among j a b ns
   notices_of_candidates j = λ i. focus_notice j a b ++ each_kind j told_kinds i ++ all_made (live_at j a b) (none_live j) (none_lacking j) i
-
--- ids that have those of a batch, and with each object the one that it hangs on, are candidates
-module _ (a b : Tree) (ta : IsObjectTree a) (tb : IsObjectTree b) (ns : List ℕ)
-    (added : (r : Record) → Contains (batch_between a b).added r → Contains ns r.id)
-    (changed : (x : Change) → Contains (batch_between a b).changed x → Contains ns x.id) where
-  pub batch_differs : (n : ℕ) → has_object b n ≡ true → Contains ns n ⊎ (record_at a n ≡ record_at b n)
-  batch_differs n there = go (record_at a n) (record_at b n) refl refl there
-    where
-      by_props : (r s : Record) (ps : List PropValue) → record_at a n ≡ Some r → record_at b n ≡ Some s → changed_props r s ≡ ps → Contains ns n ⊎ (record_at a n ≡ record_at b n)
-      by_props r s [] was is none = inr (was ∙ ap Some (same_record r s (ta.own_id n r was ∙ sym (tb.own_id n s is)) none) ∙ sym is)
-      by_props r s (p ∷ ps) was is some =
-          inl (changed (record { id = n; props = p ∷ ps }) (made_in (made_at changed_at a b) (object_ids b) n (record { id = n; props = p ∷ ps }) (id_there b n there)
-          (subst (λ l. Contains l (record { id = n; props = p ∷ ps })) (sym ((λ i. changed_at (was i) (is i) n) ∙ ap (change_of n) some)) (Contains-head _ []))))
-
-      go : (x y : Option Record) → record_at a n ≡ x → record_at b n ≡ y → is_some (record_at b n) ≡ true → Contains ns n ⊎ (record_at a n ≡ record_at b n)
-      go x None was is there = absurd (false≢true (sym (ap is_some is) ∙ there))
-      go None (Some s) was is there =
-          inl (subst (Contains ns) (tb.own_id n s is) (added s (made_in (made_at added_at a b) (object_ids b) n s (id_there b n there) (subst (λ l. Contains l s) (sym (λ i. added_at (was i) (is i) n)) (Contains-head s [])))))
-      go (Some r) (Some s) was is there = by_props r s (changed_props r s) was is refl

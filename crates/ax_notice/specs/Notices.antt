@@ -13,8 +13,7 @@ use Rattle.ax_base.specs.contracts.states.CheckedPartialEq.TheImpl as checks
 use Rattle.ax_base.specs.contracts.states.LivePartialEq.TheImpl as lives
 use mathlib.Core.Bool.{beq}
 use Rattle.ax_record.specs.declared.record.Record.{Record}
-use Rattle.ax_record.specs.Tree.{Tree, record_at, object_ids, kids_of, parent_of}
-use Rattle.ax_batch.specs.Batches.{made_at}
+use Rattle.ax_record.specs.Tree.{Tree, record_at, object_ids, kids_of, parent_of, made_at}
 
 -- a notice of an object
 abbrev pub notice : ℕ → NoticeKind → ℕ → Notice

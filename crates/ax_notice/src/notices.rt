@@ -3,8 +3,7 @@ ghost use Rattle.std.specs.Prelude.{◌≡◌, ◌++◌, ◌∷◌, [], if◌the
 ghost use Rattle.ax_base.specs.declared.notices.NoticeKind.TheVariants.{Focus};
 ghost use Rattle.std.specs.List.{flat_map};
 ghost use Rattle.std.specs.Option.{option_eq};
-ghost use Rattle.ax_record.specs.Tree.{record_at};
-ghost use Rattle.ax_batch.specs.Batches.{made_at};
+ghost use Rattle.ax_record.specs.Tree.{record_at, made_at};
 ghost use Rattle.ax_notice.specs.Notices.{is_same_in, told_at, kind_notices, told_kinds, live_of, live_above, is_region, live_at, focus_notice, notices_among, notices_between};
 ghost use Rattle.ax_notice.specs.Candidates.{AreCandidates};
 

@@ -2,27 +2,34 @@
 use Rattle.std.proofs.Common.{◌≡◌, ℕ, List, Option, Some, None, refl, sym, ◌∙◌, subst, inl}
 use Rattle.std.specs.Prelude.{String}
 use Rattle.std.specs.declared.alloc.Global.{Global}
+use Rattle.ax_ask.specs.declared.transcripts.Transcript.{Transcript}
+use Rattle.ax_ask.specs.Transcripts.{transcript_text}
+use Rattle.story_check.specs.declared.last.LastMoment.{LastMoment}
+use Rattle.story_check.specs.Last.{IsLastOf}
 use Rattle.story_check.specs.Stories.{Script}
-use Rattle.ax_world.specs.Legal.{IsLegal}
-use Rattle.ax_world.specs.Machine.{played}
+use Rattle.ax_answer.specs.Legal.{IsLegalTranscript}
+use Rattle.ax_world.specs.Machine.{transcript_of}
 use Rattle.ax_session.specs.declared.words.Command.{Command}
-use Rattle.ax_session.specs.declared.words.Command.TheVariants.{Dump, Replay}
+use Rattle.ax_session.specs.declared.words.Command.TheVariants.{Dump, Replay, Run}
 use Rattle.ax_session.specs.declared.words.Status.{Status}
 use Rattle.ax_session.specs.declared.words.Status.TheVariants.{Done, Refused, ReadFault, WriteFault, NoMemory, Words}
 use Rattle.ax_session.specs.declared.story.Refusal.{Refusal}
 use Rattle.ax_session.specs.Command.{command_of}
 use Rattle.ax_session.specs.Story.{Accepted}
-use Rattle.ax_session.specs.Texts.{text_of}
-use Rattle.ax_session.specs.TopCall.{Does, IsGood, Refuses, MayAnswer, Completes, IsComplete, TakesFor, HasInput}
+use Rattle.ax_session.specs.Texts.{document_text, replay_text}
+use Rattle.ax_session.specs.TopCall.{Does, IsGood, Refuses, MayAnswer, Completes, IsComplete, TakesFor, HasInput, LeavesSpawner}
+use Rattle.ax_session.proofs.Lines.{last_text}
 
 -- no input is both done and refused
 good_apart : (command : Command) (input : List ℕ) (refusal : Refusal) → IsGood command input → Refuses command input refusal → ⊥
 good_apart Dump input refusal h r = let e = sym h.1 ∙ r in cc
 good_apart Replay input refusal h r = let e = sym h.1 ∙ r in cc
+good_apart Run input refusal h r = let e = sym h.1 ∙ r in cc
 
 done_is_good : (command : Command) (input text : List ℕ) → Does command input text → IsGood command input
 done_is_good Dump input text h = (h.0, h.1)
 done_is_good Replay input text h = (h.0, h.1)
+done_is_good Run input text h = (h.0, h.2)
 
 -- an answer to an input is the one that it has
 answers : (command : Command) (input : List ℕ) (status : Status) (text : List ℕ) → MayAnswer command input status text → Completes command input status
@@ -39,6 +46,8 @@ one_input Dump None new taken input t h = absurd h
 one_input Dump (Some bytes) new taken input t h = t.is_all ∙ sym h
 one_input Replay None new taken input t h = absurd h
 one_input Replay (Some bytes) new taken input t h = t.is_all ∙ sym h
+one_input Run None new taken input t h = absurd h
+one_input Run (Some bytes) new taken input t h = t.is_all ∙ sym h
 
 pub complete_from : (words : List (String Global)) (mine : Command) (left new : Option (List ℕ)) (reads reads' writes writes' : ℕ) (taken input : List ℕ) (status : Status) (text : List ℕ)
     → command_of words ≡ Some mine → TakesFor mine left new taken → input ≡ taken → MayAnswer mine input status text → IsComplete words left reads reads' writes writes' status
@@ -47,7 +56,21 @@ complete_from words mine left new reads reads' writes writes' taken input status
     let read : taken ≡ other = one_input command left new taken other (subst (λ c. TakesFor c left new taken) same t) l in
     answers command other status text (subst (λ c. MayAnswer c other status text) same (subst (λ i. MayAnswer mine i status text) (e ∙ read) h))
 
--- what a command writes of an accepted story
-pub does : (command : Command) (input : List ℕ) (story : Script) (text : List ℕ) → Accepted input story → IsLegal story (played story).entries → text ≡ text_of command story → Does command input text
-does Dump input story text a legal t = (story, a, t)
-does Replay input story text a legal t = (story, a, legal, t)
+-- what `dump` writes of an accepted story, by its last moment
+pub dumps : (input : List ℕ) (last : LastMoment) (text : List ℕ) → (story : Script) × (Accepted input story × IsLastOf story last) → text ≡ document_text last.document last.flushes → Does Dump input text
+dumps input last text (story, (a, is)) t = (story, a, t ∙ last_text story last.document last.flushes is.document_is is.flushes_are)
+
+-- what `replay` writes of an accepted story
+pub replays : (input : List ℕ) (story : Script) (text : List ℕ) → Accepted input story → IsLegalTranscript story (transcript_of story) → text ≡ replay_text story → Does Replay input text
+replays input story text a legal t = (story, a, legal, t)
+
+-- what `run` writes of an accepted story
+pub runs : (input : List ℕ) (story : Script) (transcript : Transcript) (text : List ℕ) → Accepted input story → IsLegalTranscript story transcript → text ≡ transcript_text transcript → Does Run input text
+runs input story transcript text a legal t = (story, transcript, a, legal, t)
+
+-- a spawner that nobody used
+pub left_alone : {S : Type 0} (command : Option Command) (spawner : S) → LeavesSpawner command spawner spawner
+left_alone None spawner = refl
+left_alone (Some Dump) spawner = refl
+left_alone (Some Replay) spawner = refl
+left_alone (Some Run) spawner = tt

@@ -2,3 +2,5 @@ pub mod BuiltLaws
 pub mod Complete
 pub mod Lines
 pub mod Rows
+mod Pairing
+mod Ending

@@ -11,7 +11,7 @@ use Rattle.ax_record.specs.Records.{tree}
 use Rattle.ax_ask.specs.Transcripts.{end_line}
 use Rattle.story_check.specs.Stories.{Script, flushes}
 use Rattle.story_check.specs.Moments.{document_at, tree_at}
-use Rattle.ax_session.specs.Texts.{record_line, object_line, within, lines_within, dump_text}
+use Rattle.ax_session.specs.Texts.{record_line, object_line, within, lines_within, document_text, dump_text}
 
 flat_map-append : (f : ℕ → List ℕ) (xs ys : List ℕ) → flat_map f (xs ++ ys) ≡ flat_map f xs ++ flat_map f ys
 flat_map-append f [] ys = refl
@@ -63,9 +63,13 @@ module _ (t : Tree) where
       ∙ ap (λ l. old ++ l) (sym (above (levels - 1) n) ∙ ap (λ m. lines_within t m n) next)
 
 -- the whole text
-pub whole_text : (s : Script) (d : Document) (t : Tree) (start mid new : Chars) (n f : ℕ) → d ≡ document_at s (flushes s.page) → t ≡ tree d → n ≡ root → f ≡ flushes s.page
-    → start ≡ [] → mid ≡ start ++ lines_within t 128 n → new ≡ mid ++ end_line f → new ≡ dump_text s
-unfolding dump_text tree_at
-whole_text s d t start mid new n f last is top all empty lines ended =
-    ended ∙ ap (λ l. l ++ end_line f) (lines ∙ ap (λ l. l ++ lines_within t 128 n) empty ∙ ap (λ m. lines_within t 128 m) top ∙ ap (λ x. lines_within x 128 root) (is ∙ ap tree last))
-    ∙ ap (λ k. lines_within (tree (document_at s (flushes s.page))) 128 root ++ end_line k) all
+pub whole_text : (d : Document) (t : Tree) (start mid new : Chars) (n f : ℕ) → t ≡ tree d → n ≡ root
+    → start ≡ [] → mid ≡ start ++ lines_within t 128 n → new ≡ mid ++ end_line f → new ≡ document_text d f
+unfolding document_text
+whole_text d t start mid new n f is top empty lines ended =
+    ended ∙ ap (λ l. l ++ end_line f) (lines ∙ ap (λ l. l ++ lines_within t 128 n) empty ∙ ap (λ m. lines_within t 128 m) top ∙ ap (λ x. lines_within x 128 root) is)
+
+-- the text of the document of a story's last moment is that of the story
+pub last_text : (s : Script) (d : Document) (f : ℕ) → d ≡ document_at s (flushes s.page) → f ≡ flushes s.page → document_text d f ≡ dump_text s
+unfolding document_text dump_text tree_at
+last_text s d f is all = λ i. lines_within (tree (is i)) 128 root ++ end_line (all i)

@@ -4,3 +4,4 @@ pub mod Story
 pub mod Texts
 pub mod Refusals
 pub mod TopCall
+pub mod Ends

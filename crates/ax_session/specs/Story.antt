@@ -4,7 +4,7 @@ use Rattle.story_check.specs.declared.refusals.Refusal.{Refusal as StoryRefusal}
 use Rattle.story_check.specs.Stories.{Script, stuck}
 use Rattle.story_check.specs.Moments.{IsAccepted}
 use Rattle.story_check.specs.Acceptance.{judged as story_of}
-use Rattle.ax_world.specs.Moments.{AreAnswered}
+use Rattle.ax_answer.specs.Moments.{AreAnswered}
 use Rattle.ax_session.specs.declared.story.Cause.TheVariants.{NotBuilt, Story}
 use Rattle.ax_session.specs.declared.story.Refusal.{Refusal}
 use Rattle.ax_session.specs.declared.story.AcceptFail.{AcceptFail}

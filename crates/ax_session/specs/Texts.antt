@@ -4,19 +4,18 @@ use Rattle.std.specs.List.{flat_map}
 use Rattle.std.specs.Fmt.{decimal}
 use Rattle.std.specs.Option.{option_map_or}
 use Rattle.ax_base.specs.Characters.{Chars}
-use Rattle.ax_base.specs.Document.{root}
+use Rattle.ax_base.specs.Document.{Document, root}
 use Rattle.ax_base.specs.Recursion.{from_below}
 use Rattle.ax_base.specs.RoleWords.{role_word}
 use Rattle.ax_base.specs.Kids.{objects_from}
 use Rattle.ax_base.specs.Quoting.{quoted}
 use Rattle.ax_record.specs.declared.record.Record.{Record}
 use Rattle.ax_record.specs.Tree.{Tree, record_at, kids_of}
+use Rattle.ax_record.specs.Records.{tree}
 use Rattle.ax_ask.specs.Transcripts.{end_line, transcript_text}
 use Rattle.story_check.specs.Stories.{Script, flushes}
 use Rattle.story_check.specs.Moments.{tree_at}
-use Rattle.ax_world.specs.Machine.{played}
-use Rattle.ax_session.specs.declared.words.Command.{Command}
-use Rattle.ax_session.specs.declared.words.Command.TheVariants.{Dump, Replay}
+use Rattle.ax_world.specs.Machine.{transcript_of}
 
 -- the number of an object, or 0 for none
 abbrev pub number_of : Option ℕ → ℕ
@@ -39,15 +38,14 @@ within t levels n = from_below objects_from (λ k. k) (kids_of t) levels n
 abbrev pub lines_within : Tree → ℕ → ℕ → Chars
 lines_within t levels n = flat_map (object_line t) (within t levels n)
 
+-- the text of a document: the lines of its tree, which goes down at most 128 levels, and the number of flushes
+unfoldable pub document_text : Document → ℕ → Chars
+document_text d f = lines_within (tree d) 128 root ++ end_line f
+
 -- what `dump` writes: the lines of the tree of the last moment, which goes down at most 128 levels, and the number of flushes
 unfoldable pub dump_text : Script → Chars
 dump_text s = lines_within (tree_at s (flushes s.page)) 128 root ++ end_line (flushes s.page)
 
 -- what `replay` writes: the text of what the client was told, and the number of flushes
 unfoldable pub replay_text : Script → Chars
-replay_text s = transcript_text (record { entries = (played s).entries; flushes = flushes s.page })
-
--- what a command writes of a story
-abbrev pub text_of : Command → Script → Chars
-text_of Dump s = dump_text s
-text_of Replay s = replay_text s
+replay_text s = transcript_text (transcript_of s)

@@ -1,7 +1,9 @@
 //! Which accepted stories are built today.
 ghost use Rattle.std.specs.Prelude.{◌≡◌};
+ghost use Rattle.std.specs.List.{list_all};
 ghost use Rattle.ax_answer.specs.Answers.{is_answered};
-ghost use Rattle.ax_session.specs.Built.{is_built_line, is_built};
+ghost use Rattle.ax_answer.specs.Moments.{is_answered_line};
+ghost use Rattle.ax_session.specs.Built.{is_built};
 
 use ax_ask::Request;
 use story_check::{ClientLine, Story};
@@ -10,18 +12,26 @@ use story_check::{ClientLine, Story};
 pub fn is_built(story: &Story) -> bool
     ensures { result ≡ is_built story.now }
 {
-    story.client().iter().all(is_built_line)
+    are_built(story.client())
 }
 
-fn is_built_line(line: &ClientLine) -> bool
-    ensures { result ≡ is_built_line line.now }
+/// Whether a story with these lines of its client is built today, if it is accepted.
+pub fn are_built(client: &[ClientLine]) -> bool
+    ensures { result ≡ list_all is_answered_line client.now }
+{
+    client.iter().all(is_answered_line)
+}
+
+/// Whether a line asks nothing, or what is answered.
+fn is_answered_line(line: &ClientLine) -> bool
+    ensures { result ≡ is_answered_line line.now }
 {
     match line {
         ClientLine::Ask(request) => is_answered(request),
         ClientLine::Again(request) => is_answered(request),
         ClientLine::Hear => true,
         ClientLine::Await(_) => true,
-        ClientLine::Notices => false,
+        ClientLine::Notices => true,
     }
 }
 
@@ -42,6 +52,14 @@ fn is_answered(request: &Request) -> bool
         | Request::Frame(_)
         | Request::Parent(_)
         | Request::Children(_, _) => true,
-        _ => false,
+        Request::Compare(_, _)
+        | Request::NextChar(_)
+        | Request::PrevChar(_)
+        | Request::NextWord(_)
+        | Request::LineAt(_)
+        | Request::TextOf(_, _)
+        | Request::BoundsOf(_, _)
+        | Request::Search(_)
+        | Request::Hit(_, _) => false,
     }
 }

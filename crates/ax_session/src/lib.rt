@@ -1,14 +1,21 @@
-//! The commands of the accessibility core, from bytes to bytes.
+//! The commands of the accessibility core, from bytes to bytes, and its run on two threads.
 #![tactic(auto)]
 
 mod built;
-mod dump;
+mod jobs;
+mod play_text;
 mod refusals;
-mod replay;
+mod settling;
 mod story;
+mod threads;
 mod top;
+mod tree_text;
 mod words;
 
+pub use ax_world::replay;
+pub use settling::settle;
 pub use story::{AcceptFail, Cause, Refusal};
+pub use threads::run_threads;
 pub use top::{axcore, still_command};
+pub use tree_text::dump;
 pub use words::{Command, Status, command_of};

@@ -1,15 +1,17 @@
 //! Which inputs are stories that are built.
-ghost use Rattle.std.specs.Prelude.{◌≡◌, IfOk, Ok, false};
-ghost use Rattle.story_check.specs.Stories.{stuck};
+ghost use Rattle.std.specs.Prelude.{◌≡◌, IfOk, IfErr, Ok, false};
+ghost use Rattle.story_check.specs.Last.{IsLastOf};
+ghost use Rattle.story_check.specs.Stories.{Script, stuck};
 ghost use Rattle.story_check.specs.Moments.{IsAccepted};
 ghost use Rattle.ax_session.specs.declared.story.AcceptFail.{AcceptFail};
-ghost use Rattle.ax_session.specs.Story.{of_story, if_built, judged, Accepts, IsReady};
+ghost use Rattle.ax_session.specs.Story.{of_story, if_built, judged, Accepted, AcceptFails, Accepts, IsReady};
 
-use crate::built::is_built;
+use crate::built::{are_built, is_built};
+use ax_base::NoMemory;
 use std::alloc::Global;
 use story_check::{
-    AcceptFail as StoryFail, Cause as StoryCause, Refusal as StoryRefusal, Story,
-    accept as accept_story,
+    AcceptFail as StoryFail, Cause as StoryCause, LastMoment, Refusal as StoryRefusal, Story,
+    accept as accept_story, accept_last as accept_last_of,
 };
 
 /// Why an input is refused.
@@ -46,6 +48,14 @@ impl From<Refusal> for AcceptFail {
     }
 }
 
+impl From<NoMemory> for AcceptFail {
+    ghost from_gives = { λ _ fail. fail ≡ AcceptFail.NoMemory };
+
+    fn from(_: NoMemory) -> AcceptFail {
+        AcceptFail::NoMemory
+    }
+}
+
 const NOT_BUILT: Refusal = Refusal {
     line: 0,
     cause: Cause::NotBuilt,
@@ -59,6 +69,24 @@ pub fn accept(alloc: Global, bytes: &[u8]) -> Result<Story, AcceptFail>
 {
     match accept_story(alloc, bytes) {
         Ok(story) => Ok(if_built(story)?),
+        Err(StoryFail::Refused(refusal)) => Err(AcceptFail::Refused(of_story(refusal))),
+        Err(StoryFail::NoMemory) => Err(AcceptFail::NoMemory),
+    }
+}
+
+/// The last moment of the story that the bytes are, if it is accepted and built, or the first refusal.
+pub fn accept_last(alloc: Global, bytes: &[u8]) -> Result<LastMoment, AcceptFail>
+    ensures last { IfOk result (λ last. (story : Script) × Accepted bytes.now story × IsLastOf story last) }
+    ensures refused { IfErr result (λ fail. AcceptFails fail (judged bytes.now)) }
+{
+    match accept_last_of(alloc, bytes) {
+        Ok(last) => {
+            if are_built(last.client.as_slice()) {
+                Ok(last)
+            } else {
+                Err(AcceptFail::Refused(NOT_BUILT))
+            }
+        }
         Err(StoryFail::Refused(refusal)) => Err(AcceptFail::Refused(of_story(refusal))),
         Err(StoryFail::NoMemory) => Err(AcceptFail::NoMemory),
     }

@@ -1,54 +1,73 @@
 //! The top call: from words and bytes to a status and bytes.
-ghost use Rattle.std.specs.Prelude.{◌≡◌, ◌↔◌, None, IfOk, IsErrOf};
+ghost use Rattle.std.specs.Prelude.{◌≡◌, ◌↔◌, None, Some, IfOk, IfErr, OnOk, IsErrOf};
 ghost use Rattle.ax_edge.specs.Causes.{Rose};
-ghost use Rattle.ax_world.specs.Legal.{IsLegal};
-ghost use Rattle.ax_world.specs.Machine.{played};
+ghost use Rattle.ax_session.specs.declared.words.Command.TheVariants.{Dump, Replay, Run};
+ghost use Rattle.ax_session.specs.declared.story.Refusal.{Refusal};
 ghost use Rattle.ax_session.specs.Command.{command_of};
-ghost use Rattle.ax_session.specs.Story.{IsReady};
-ghost use Rattle.ax_session.specs.Texts.{text_of};
-ghost use Rattle.ax_session.specs.TopCall.{IsReader, TakesFor, MayAnswer, StatusMeans, IsComplete};
+ghost use Rattle.ax_session.specs.Refusals.{refusal_text};
+ghost use Rattle.ax_session.specs.Story.{judged, AcceptFails};
+ghost use Rattle.ax_session.specs.TopCall.{Does, IsReader, TakesFor, MayAnswer, StatusMeans, IsComplete, LeavesSpawner};
 
-use crate::dump::dump;
+use crate::play_text::replay_text;
 use crate::refusals::refusal_line;
-use crate::replay::replay_text;
-use crate::story::accept;
+use crate::story::{accept, accept_last};
+use crate::threads::run_threads;
+use crate::tree_text::document_text;
 use crate::{AcceptFail, Command, Status, command_of};
+use ax_ask::print_transcript;
 use ax_base::{NoMemory, Text};
 use ax_edge::{Gate, ReadError, Sink, Source, Spawner, read_input, write_whole};
 use ax_world::playing_ends;
 use std::alloc::Global;
 use std::sync::Wait;
 use std::thread::Threads;
-use story_check::Story;
 
 /// Does the command that the words name: reads its input to the end, does the work, and writes the whole text.
 ///
 /// Steps go in this order: words, reading, acceptance, the work, writing. The text is built whole before the first write.
-/// `gate` is called before each turn of a worker, and `spawner` says whether the two sides get threads of their own.
+/// `gate` is called before each turn of a worker, and `spawner` says whether the two sides get threads of their own. `run`
+/// waits for its other thread, so what is promised of it is promised if the call returns; every other command returns.
 pub fn axcore<R: Threads + Wait + Sync, I: Source, O: Sink, G: Gate + Sync, S: Spawner>(
-    _rt: &R,
+    rt: &R,
     alloc: Global,
     words: &[String],
     source: &mut I,
     sink: &mut O,
-    _gate: &G,
-    _spawner: &mut S,
+    gate: &G,
+    spawner: &mut S,
 ) -> Status
     ensures words { (result ≡ Status.Words) ↔ (command_of words.now ≡ None) }
     ensures means { StatusMeans I.left I.faults O.gone O.faults words.now source.old source.new sink.old sink.new result }
     ensures complete { IsComplete words.now (I.left source.old) (I.faults source.old) (I.faults source.new)
         (O.faults sink.old) (O.faults sink.new) result }
+    ensures spawner { LeavesSpawner (command_of words.now) spawner.old spawner.new }
 {
-    still_command(alloc, words, source, sink)
+    let Some(command) = command_of(words) else {
+        return Status::Words;
+    };
+    let input = match input_of(alloc, command, source) {
+        Ok(input) => input,
+        Err(ReadError::Failed) => return Status::ReadFault,
+        Err(ReadError::NoMemory) => return Status::NoMemory,
+    };
+    let answer = match reply_to(rt, alloc, command, &input, gate, spawner) {
+        Ok(answer) => answer,
+        Err(NoMemory) => return Status::NoMemory,
+    };
+    match write_whole(sink, answer.text.as_str().as_bytes()) {
+        Ok(()) => answer.status,
+        Err(_) => Status::WriteFault,
+    }
 }
 
-/// Does every command that waits for nobody, and returns.
+/// Does every command that waits for nobody, and returns. It is not for `run`.
 pub fn still_command<I: Source, O: Sink>(
     alloc: Global,
     words: &[String],
     source: &mut I,
     sink: &mut O,
 ) -> Status
+    requires still { command_of words.now ≡ Some Run → ⊥ }
     ensures words { (result ≡ Status.Words) ↔ (command_of words.now ≡ None) }
     ensures means { StatusMeans I.left I.faults O.gone O.faults words.now source.old source.new sink.old sink.new result }
     ensures complete { IsComplete words.now (I.left source.old) (I.faults source.old) (I.faults source.new)
@@ -62,7 +81,7 @@ pub fn still_command<I: Source, O: Sink>(
         Err(ReadError::Failed) => return Status::ReadFault,
         Err(ReadError::NoMemory) => return Status::NoMemory,
     };
-    let reply = match reply_to(alloc, command, &input) {
+    let reply = match still_reply(alloc, command, &input) {
         Ok(reply) => reply,
         Err(NoMemory) => return Status::NoMemory,
     };
@@ -82,11 +101,13 @@ fn input_of<I: Source>(
     source: &mut I,
 ) -> Result<Vec<u8>, ReadError>
     ensures input { IfOk result (λ input. TakesFor command (I.left source.old) (I.left source.new) input.items) }
+    ensures kept { OnOk result (I.faults source.new ≡ I.faults source.old) }
     ensures failed { IsErrOf result ReadError.Failed → IsReader command × Rose (I.faults source.old) (I.faults source.new) }
 {
     match command {
         Command::Dump => read_input(alloc, source, MOST_READ),
         Command::Replay => read_input(alloc, source, MOST_READ),
+        Command::Run => read_input(alloc, source, MOST_READ),
     }
 }
 
@@ -97,31 +118,101 @@ struct Reply {
     text: Text,
 }
 
-fn reply_to(alloc: Global, command: Command, input: &[u8]) -> Result<Reply, NoMemory>
-    ensures { IfOk result (λ reply. MayAnswer command input.now reply.status reply.text) }
+/// The reply to any command. It waits where the command does.
+fn reply_to<R: Threads + Wait + Sync, G: Gate + Sync, S: Spawner>(
+    rt: &R,
+    alloc: Global,
+    command: Command,
+    input: &[u8],
+    gate: &G,
+    spawner: &mut S,
+) -> Result<Reply, NoMemory>
+    ensures reply { IfOk result (λ reply. MayAnswer command input.now reply.status reply.text) }
+    ensures spawner { LeavesSpawner (Some command) spawner.old spawner.new }
 {
-    match accept(alloc, input) {
-        Ok(story) => Ok(Reply {
-            status: Status::Done,
-            text: text_of(alloc, command, &story)?,
-        }),
-        Err(AcceptFail::Refused(refusal)) => Ok(Reply {
-            status: Status::Refused,
-            text: refusal_line(alloc, refusal)?,
-        }),
-        Err(AcceptFail::NoMemory) => Err(NoMemory),
+    match command {
+        Command::Dump => still_reply(alloc, command, input),
+        Command::Replay => still_reply(alloc, command, input),
+        Command::Run => match run_input(rt, alloc, input, gate, spawner) {
+            Ok(text) => Ok(done(text)),
+            Err(fail) => refused(alloc, fail),
+        },
     }
 }
 
-/// What a command writes of a story that is accepted and built. What is played of it is legal.
-fn text_of(alloc: Global, command: Command, story: &Story) -> Result<Text, NoMemory>
-    requires { IsReady story.now }
-    ensures text { IfOk result (λ text. text ≡ text_of command story.now) }
-    ensures legal { IsLegal story.now (played story.now).entries }
+/// The reply to a command that waits for nobody.
+fn still_reply(alloc: Global, command: Command, input: &[u8]) -> Result<Reply, NoMemory>
+    requires still { command ≡ Run → ⊥ }
+    ensures { IfOk result (λ reply. MayAnswer command input.now reply.status reply.text) }
 {
-    playing_ends();
-    match command {
-        Command::Dump => dump(alloc, story),
-        Command::Replay => replay_text(alloc, story),
+    let told = match command {
+        Command::Dump => dump_input(alloc, input),
+        Command::Replay => replay_input(alloc, input),
+        Command::Run => unreachable!(),
+    };
+    match told {
+        Ok(text) => Ok(done(text)),
+        Err(fail) => refused(alloc, fail),
     }
+}
+
+/// The reply that a command was done, and wrote this.
+fn done(text: Text) -> Reply
+    ensures { result ≡ record { status = Status.Done; text = text } }
+{
+    Reply {
+        status: Status::Done,
+        text,
+    }
+}
+
+/// The reply to an input that is refused.
+fn refused(alloc: Global, fail: AcceptFail) -> Result<Reply, NoMemory>
+    ensures { IfOk result (λ reply. (reply.status ≡ Status.Refused) × ((refusal : Refusal) × (fail ≡ AcceptFail.Refused refusal) × (reply.text ≡ refusal_text refusal))) }
+{
+    match fail {
+        AcceptFail::Refused(refusal) => Ok(Reply {
+            status: Status::Refused,
+            text: refusal_line(alloc, refusal)?,
+        }),
+        AcceptFail::NoMemory => Err(NoMemory),
+    }
+}
+
+/// What `dump` writes of its input. No edit of the story is kept.
+fn dump_input(alloc: Global, input: &[u8]) -> Result<Text, AcceptFail>
+    ensures done { IfOk result (λ text. Does Dump input.now text) }
+    ensures refused { IfErr result (λ fail. AcceptFails fail (judged input.now)) }
+{
+    let last = accept_last(alloc, input)?;
+    let text = document_text(alloc, &last.document, last.flushes)?;
+    Ok(text)
+}
+
+/// What `replay` writes of its input. What is played is legal.
+fn replay_input(alloc: Global, input: &[u8]) -> Result<Text, AcceptFail>
+    ensures done { IfOk result (λ text. Does Replay input.now text) }
+    ensures refused { IfErr result (λ fail. AcceptFails fail (judged input.now)) }
+{
+    let story = accept(alloc, input)?;
+    playing_ends();
+    let text = replay_text(alloc, &story)?;
+    Ok(text)
+}
+
+/// What `run` writes of its input: the text of one legal transcript.
+fn run_input<R: Threads + Wait + Sync, G: Gate + Sync, S: Spawner>(
+    rt: &R,
+    alloc: Global,
+    input: &[u8],
+    gate: &G,
+    spawner: &mut S,
+) -> Result<Text, AcceptFail>
+    ensures done { IfOk result (λ text. Does Run input.now text) }
+    ensures refused { IfErr result (λ fail. AcceptFails fail (judged input.now)) }
+{
+    let story = accept(alloc, input)?;
+    let transcript = run_threads(rt, alloc, &story, gate, spawner)?;
+    let text = print_transcript(alloc, &transcript)?;
+    Ok(text)
 }

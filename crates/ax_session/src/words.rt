@@ -7,8 +7,10 @@ ghost use Rattle.ax_session.specs.Command.{command_of, status_number};
 pub enum Command {
     /// Write the last tree of a story.
     Dump,
-    /// Play a story, and write what its client was told.
+    /// Play a story in turns, and write what its client was told.
     Replay,
+    /// Run the page and the client of a story on two threads, and write what the client was told.
+    Run,
 }
 
 /// How the top call ends.
@@ -54,6 +56,8 @@ pub fn command_of(words: &[String]) -> Option<Command>
                 Some(Command::Dump)
             } else if word.as_str() == "replay" {
                 Some(Command::Replay)
+            } else if word.as_str() == "run" {
+                Some(Command::Run)
             } else {
                 None
             }

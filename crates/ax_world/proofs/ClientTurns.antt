@@ -3,11 +3,9 @@ use Rattle.std.proofs.Common.{◌≡◌, ℕ, ◌≤◌, ◌<◌, List, ◌∙�
 use Rattle.std.specs.Prelude.{slice_get, nat_le, if◌then◌else◌}
 use Rattle.std.proofs.lemmas.Bool.Decides.{nat_tests}
 use Rattle.story_check.specs.declared.story.ClientLine.{ClientLine}
-use Rattle.story_check.specs.declared.story.ClientLine.TheVariants.{Await, Notices}
+use Rattle.story_check.specs.declared.story.ClientLine.TheVariants.{Await}
 use Rattle.story_check.specs.Stories.{Script}
-use Rattle.ax_ask.specs.declared.transcripts.EntryBody.TheVariants.{Await as AwaitBody, Notices as NoticesBody}
-use Rattle.ax_base.specs.declared.notices.Notice.{Notice}
-use Rattle.ax_world.specs.Moments.{notices_of}
+use Rattle.ax_ask.specs.declared.transcripts.EntryBody.TheVariants.{Await as AwaitBody}
 use Rattle.ax_world.specs.declared.turns.Turn.TheVariants.{Did, Waiting}
 use Rattle.ax_world.specs.Machine.{client_step, printed, did, waits}
 use Rattle.ax_world.specs.Worlds.{Play, Gives}
@@ -25,7 +23,3 @@ await_waits s old a have line e h = subst (λ (o : Option ClientLine). Gives old
   where
     unmet : nat_le a old.state.published ≡ false
     unmet = grind (arith, nat_tests)
-
--- it printed its notices
-pub notices_did : (s : Script) (old new : Play) (noticed : ℕ) (none : List Notice) → slice_get s.client old.state.client_done ≡ Some Notices → noticed ≡ old.state.taken → none ≡ notices_of s old.state.noticed old.state.taken → new ≡ record { story = old.story; state = record (printed old.state noticed (NoticesBody none)) { noticed = noticed } } → Gives old (client_step s old.state (slice_get s.client old.state.client_done)) (new, Did)
-notices_did s old new noticed none line e f g = subst (λ (o : Option ClientLine). Gives old (client_step s old.state o) (new, Did)) (sym line) (g ∙ (λ j. record { story = old.story; state = record (printed old.state (e j) (NoticesBody (f j))) { noticed = e j } }), refl)

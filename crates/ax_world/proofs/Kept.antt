@@ -1,7 +1,8 @@
 -- What the core keeps stays right.
-use Rattle.std.proofs.Common.{◌≡◌, ℕ, suc, ◌+◌, List, ◌∷◌, drop, Option, Some, None, refl, sym, ap, ◌∙◌, subst, arith}
-use Rattle.std.specs.Prelude.{slice_get, unwrap_or, IsTrue, Result, Ok, Err, IfOk}
+use Rattle.std.proofs.Common.{◌≡◌, ℕ, suc, ◌+◌, ◌≤◌, List, [], ◌∷◌, ◌++◌, drop, Some, refl, sym, ap, ◌∙◌, subst, arith}
+use Rattle.std.specs.Prelude.{slice_get, IsTrue, Result, Ok, Err, IfOk}
 use Rattle.ax_base.specs.declared.memory.NoMemory.{NoMemory}
+use Rattle.ax_base.specs.declared.notices.Notice.{Notice}
 use Rattle.std.proofs.Math.Seq.{drop-cons}
 use Rattle.std.proofs.lemmas.Option.{slice_get_within, get_or_from_slice_get}
 use Rattle.std.proofs.lemmas.List.Elements.{All-get_or}
@@ -10,15 +11,23 @@ use Rattle.ax_dom.specs.declared.edit.Edit.{Edit}
 use Rattle.ax_dom.specs.Changes.{edited, new_document}
 use Rattle.ax_record.specs.Tree.{Tree}
 use Rattle.ax_record.specs.Records.{tree}
+use Rattle.ax_batch.specs.declared.batch.Batch.{Batch}
+use Rattle.ax_batch.specs.Batches.{batch_between}
+use Rattle.ax_notice.specs.Notices.{notices_between}
+use Rattle.change_log.specs.declared.log.LogEntry.{LogEntry}
+use Rattle.change_log.specs.Logs.{entry_after, span, patched_by, notices_in, FitsAll}
+use Rattle.change_log.proofs.Spans.{span-snoc, span-none, span_patches, span_fits, span_notices}
+use Rattle.live_tree.specs.LiveTrees.{LiveDocument}
 use Rattle.story_check.specs.declared.story.ClientLine.{ClientLine}
 use Rattle.story_check.specs.declared.story.PageLine.TheVariants.{Change, Flush, Until}
 use Rattle.story_check.specs.Stories.{Script, flushes}
-use Rattle.story_check.specs.Moments.{document_at, after_edits, after_flushes, tree_at, MayBeDone, AreLinesAccepted}
+use Rattle.story_check.specs.Moments.{document_at, after_edits, after_flushes, tree_at, MayBeDone, AreLinesAccepted, AreTrees}
 use Rattle.ax_ask.specs.declared.transcripts.Entry.{Entry}
 use Rattle.ax_ask.specs.declared.requests.Request.{Request}
 use Rattle.ax_ask.specs.declared.replies.Reply.{Reply}
 use Rattle.ax_answer.specs.Answers.{answer}
-use Rattle.ax_world.specs.Moments.{AreAnswered, is_answered_line, answer_at}
+use Rattle.ax_answer.specs.Moments.{AreAnswered, is_answered_line, answer_at, notices_of}
+use Rattle.ax_answer.proofs.Noticing.{notices-join, notices-none}
 use Rattle.ax_world.specs.Machine.{State, start}
 use Rattle.ax_world.specs.Worlds.{IsKept}
 
@@ -38,94 +47,155 @@ later_of_start : (s : Script) (d : Document) (k : ℕ) → d ≡ after_edits new
 unfolding document_at
 later_of_start s d k e = let n : 0 + suc k ≡ suc k = omega arith in ap (after_flushes (after_edits new_document s.base) s.page) n ∙ ap (λ x. after_flushes x s.page (suc k)) (sym e)
 
-tree_next : (s : Script) (d : Document) (p : ℕ) (t : Tree) → document_at s (p + 1) ≡ d → t ≡ tree d → t ≡ tree_at s (p + 1)
+tree_next : (s : Script) (d : Document) (p : ℕ) → document_at s (p + 1) ≡ d → tree d ≡ tree_at s (p + 1)
 unfolding tree_at
-tree_next s d p t e f = f ∙ ap tree (sym e)
+tree_next s d p e = ap tree (sym e)
 
 -- the document of moment 0 is that of the edits before the start
 pub base_is : (s : Script) → document_at s 0 ≡ after_edits new_document s.base
 unfolding document_at
 base_is s = refl
 
-pub kept_start : (s : Script) (entries : List Entry) (document : Document) (mine : Tree) → document ≡ after_edits new_document s.base → mine ≡ tree document → AreLinesAccepted (after_edits new_document s.base) s.page → AreAnswered s.client → IsKept s (record start { entries = entries }) document None mine
-kept_start s entries document mine d m a q = record {
-  left = omega arith;
-  later = λ k. later_of_start s document k d;
-  accepted = subst (λ x. AreLinesAccepted x s.page) (sym d) a;
-  answered = q;
-  waiting_is = refl;
-  mine_is = tree_of_start s document mine d m;
-}
-
--- the next edit may be done
-pub next_accepted : (s : Script) (c : State) (document : Document) (waiting : Option Tree) (mine : Tree) (edit : Edit) → IsKept s c document waiting mine → slice_get s.page c.page_done ≡ Some (Change edit) → MayBeDone document edit
-next_accepted s c document waiting mine edit h line = (subst (AreLinesAccepted document) (drop_line s.page c.page_done (Change edit) line) h.accepted).0
-
-pub kept_change : (s : Script) (c : State) (document : Document) (waiting : Option Tree) (mine : Tree) (done : ℕ) (edit : Edit) (now : Document) → IsKept s c document waiting mine → slice_get s.page c.page_done ≡ Some (Change edit) → done ≡ c.page_done + 1 → now ≡ edited document edit → IsKept s (record c { page_done = done }) now waiting mine
-kept_change s c document waiting mine done edit now h line e f =
-    let d = left_after s.page c.page_done done (Change edit) line e in
+pub kept_start : (s : Script) (entries : List Entry) (document : Document) (live : LiveDocument) (log : List LogEntry) (mine : Tree) (pending : List Notice) → document ≡ after_edits new_document s.base → live ≡ record { flushed = tree document; document = document } → log ≡ [] → mine ≡ live.flushed → pending ≡ [] → AreLinesAccepted (after_edits new_document s.base) s.page → AreAnswered s.client → AreTrees s → IsKept s (record start { entries = entries }) live log mine pending
+kept_start s entries document live log mine pending d v l m p a q trees =
+    let is : live.document ≡ after_edits new_document s.base = ap (λ (x : LiveDocument). x.document) v ∙ d in
+    let shown : live.flushed ≡ tree_at s 0 = tree_of_start s document live.flushed d (ap (λ (x : LiveDocument). x.flushed) v) in
     record {
-      left = let f = ap flushes d in let g = h.left in omega arith;
-      later = λ k. h.later k ∙ (ap (λ l. after_flushes document l (suc k)) d ∙ ap (λ x. after_flushes x (drop done s.page) (suc k)) (sym f));
-      accepted = subst (λ x. AreLinesAccepted x (drop done s.page)) (sym f) (subst (AreLinesAccepted document) d h.accepted).1;
-      answered = h.answered;
-      waiting_is = h.waiting_is;
-      mine_is = h.mine_is;
+      left = omega arith;
+      later = λ k. later_of_start s live.document k is;
+      accepted = subst (λ x. AreLinesAccepted x s.page) (sym is) a;
+      answered = q;
+      trees = trees;
+      shown_is = shown;
+      log_is = l ∙ sym (span-none (tree_at s) 0);
+      mine_is = m ∙ shown;
+      pending_is = p ∙ sym (notices-none s 0);
+      taken_most = omega arith;
+      noticed_most = omega arith;
     }
 
-pub kept_until : (s : Script) (c : State) (document : Document) (waiting : Option Tree) (mine : Tree) (done k : ℕ) → IsKept s c document waiting mine → slice_get s.page c.page_done ≡ Some (Until k) → done ≡ c.page_done + 1 → IsKept s (record c { page_done = done }) document waiting mine
-kept_until s c document waiting mine done n h line e =
+-- the next edit may be done
+pub next_accepted : (s : Script) (c : State) (live : LiveDocument) (log : List LogEntry) (mine : Tree) (pending : List Notice) (edit : Edit) → IsKept s c live log mine pending → slice_get s.page c.page_done ≡ Some (Change edit) → MayBeDone live.document edit
+next_accepted s c live log mine pending edit h line = (subst (AreLinesAccepted live.document) (drop_line s.page c.page_done (Change edit) line) h.accepted).0
+
+pub kept_change : (s : Script) (c : State) (live : LiveDocument) (log : List LogEntry) (mine : Tree) (pending : List Notice) (done : ℕ) (edit : Edit) (now : LiveDocument) → IsKept s c live log mine pending → slice_get s.page c.page_done ≡ Some (Change edit) → done ≡ c.page_done + 1 → now ≡ record { flushed = live.flushed; document = edited live.document edit } → IsKept s (record c { page_done = done }) now log mine pending
+kept_change s c live log mine pending done edit now h line e v =
+    let d = left_after s.page c.page_done done (Change edit) line e in
+    let f : now.document ≡ edited live.document edit = ap (λ (x : LiveDocument). x.document) v in
+    record {
+      left = let f = ap flushes d in let g = h.left in omega arith;
+      later = λ k. h.later k ∙ (ap (λ l. after_flushes live.document l (suc k)) d ∙ ap (λ x. after_flushes x (drop done s.page) (suc k)) (sym f));
+      accepted = subst (λ x. AreLinesAccepted x (drop done s.page)) (sym f) (subst (AreLinesAccepted live.document) d h.accepted).1;
+      answered = h.answered;
+      trees = h.trees;
+      shown_is = ap (λ (x : LiveDocument). x.flushed) v ∙ h.shown_is;
+      log_is = h.log_is;
+      mine_is = h.mine_is;
+      pending_is = h.pending_is;
+      taken_most = h.taken_most;
+      noticed_most = h.noticed_most;
+    }
+
+pub kept_until : (s : Script) (c : State) (live : LiveDocument) (log : List LogEntry) (mine : Tree) (pending : List Notice) (done k : ℕ) → IsKept s c live log mine pending → slice_get s.page c.page_done ≡ Some (Until k) → done ≡ c.page_done + 1 → IsKept s (record c { page_done = done }) live log mine pending
+kept_until s c live log mine pending done n h line e =
     let d = left_after s.page c.page_done done (Until n) line e in
     record {
       left = let f = ap flushes d in let g = h.left in omega arith;
-      later = λ k. h.later k ∙ ap (λ l. after_flushes document l (suc k)) d;
-      accepted = subst (AreLinesAccepted document) d h.accepted;
+      later = λ k. h.later k ∙ ap (λ l. after_flushes live.document l (suc k)) d;
+      accepted = subst (AreLinesAccepted live.document) d h.accepted;
       answered = h.answered;
-      waiting_is = h.waiting_is;
+      trees = h.trees;
+      shown_is = h.shown_is;
+      log_is = h.log_is;
       mine_is = h.mine_is;
+      pending_is = h.pending_is;
+      taken_most = h.taken_most;
+      noticed_most = h.noticed_most;
     }
 
 -- there is a flush that is not published yet
-pub may_publish : (s : Script) (c : State) (document : Document) (waiting : Option Tree) (mine : Tree) → IsKept s c document waiting mine → slice_get s.page c.page_done ≡ Some Flush → c.published + 1 + flushes (drop (c.page_done + 1) s.page) ≡ flushes s.page
-may_publish s c document waiting mine h line = let x = ap flushes (drop_line s.page c.page_done Flush line) in let y = h.left in omega arith
+pub may_publish : (s : Script) (c : State) (live : LiveDocument) (log : List LogEntry) (mine : Tree) (pending : List Notice) → IsKept s c live log mine pending → slice_get s.page c.page_done ≡ Some Flush → c.published + 1 + flushes (drop (c.page_done + 1) s.page) ≡ flushes s.page
+may_publish s c live log mine pending h line = let x = ap flushes (drop_line s.page c.page_done Flush line) in let y = h.left in omega arith
 
-pub kept_flush : (s : Script) (c : State) (document : Document) (waiting : Option Tree) (mine : Tree) (done published : ℕ) (shown : Tree) → IsKept s c document waiting mine → slice_get s.page c.page_done ≡ Some Flush → done ≡ c.page_done + 1 → published ≡ c.published + 1 → shown ≡ tree document → IsKept s (record c { page_done = done; published = published }) document (Some shown) mine
-kept_flush s c document waiting mine done published shown h line e f g =
+-- what a flush appends is the next moment
+next_entry : (s : Script) (p : ℕ) (shown now : Tree) (b : Batch) (n : List Notice) → shown ≡ tree_at s p → now ≡ tree_at s (p + 1) → b ≡ batch_between shown now → n ≡ notices_between shown now (p + 1) → record { batch = b; notices = n } ≡ entry_after (tree_at s) p
+next_entry s p shown now b n x y e f = λ i. record {
+  batch = (e ∙ (λ j. batch_between (x j) (y j))) i;
+  notices = (f ∙ (λ j. notices_between (x j) (y j) (p + 1))) i;
+}
+
+pub kept_flush : (s : Script) (c : State) (live : LiveDocument) (log : List LogEntry) (mine : Tree) (pending : List Notice) (done published : ℕ) (now : LiveDocument) (batch : Batch) (notices : List Notice) (longer : List LogEntry) → IsKept s c live log mine pending → slice_get s.page c.page_done ≡ Some Flush → done ≡ c.page_done + 1 → published ≡ c.published + 1
+    → now ≡ record { flushed = tree live.document; document = live.document } → batch ≡ batch_between live.flushed (tree live.document) → notices ≡ notices_between live.flushed (tree live.document) published → longer ≡ log ++ record { batch = batch; notices = notices } ∷ []
+    → IsKept s (record c { page_done = done; published = published }) now longer mine pending
+kept_flush s c live log mine pending done published now batch notices longer h line e f v b n l =
     let d = left_after s.page c.page_done done Flush line e in
-    let now : document_at s (c.published + 1) ≡ document = h.later 0 ∙ ap (λ l. after_flushes document l 1) d in
+    let same : now.document ≡ live.document = ap (λ (x : LiveDocument). x.document) v in
+    let next : document_at s (c.published + 1) ≡ live.document = h.later 0 ∙ ap (λ l. after_flushes live.document l 1) d in
+    let shown : tree live.document ≡ tree_at s (c.published + 1) = tree_next s live.document c.published next in
+    let more : record { batch = batch; notices = notices } ≡ entry_after (tree_at s) c.published = next_entry s c.published live.flushed (tree live.document) batch notices h.shown_is shown b (n ∙ ap (λ j. notices_between live.flushed (tree live.document) j) f) in
     record {
       left = let x = ap flushes d in let y = h.left in omega arith;
-      later = λ k. let n : published + suc k ≡ c.published + suc (suc k) = omega arith in ap (document_at s) n ∙ (h.later (suc k) ∙ ap (λ l. after_flushes document l (suc (suc k))) d);
-      accepted = subst (AreLinesAccepted document) d h.accepted;
+      later = λ k. let n : published + suc k ≡ c.published + suc (suc k) = omega arith in ap (document_at s) n ∙ (h.later (suc k) ∙ (ap (λ l. after_flushes live.document l (suc (suc k))) d ∙ ap (λ x. after_flushes x (drop done s.page) (suc k)) (sym same)));
+      accepted = subst (λ x. AreLinesAccepted x (drop done s.page)) (sym same) (subst (AreLinesAccepted live.document) d h.accepted);
       answered = h.answered;
-      waiting_is = tree_next s document c.published shown now g ∙ ap (tree_at s) (sym f);
+      trees = h.trees;
+      shown_is = ap (λ (x : LiveDocument). x.flushed) v ∙ (shown ∙ ap (tree_at s) (sym f));
+      log_is = l ∙ ((λ i. h.log_is i ++ more i ∷ []) ∙ (sym (span-snoc (tree_at s) c.taken c.published h.taken_most) ∙ ap (λ k. span (tree_at s) c.taken k) (sym f)));
       mine_is = h.mine_is;
+      pending_is = h.pending_is;
+      taken_most = let x = h.taken_most in omega arith;
+      noticed_most = h.noticed_most;
     }
 
--- the client takes all that is published: the tree that waits, or none but its own
-pub kept_take : (s : Script) (c : State) (document : Document) (waiting : Option Tree) (mine now : Tree) → IsKept s c document waiting mine → now ≡ unwrap_or waiting mine → IsKept s (record c { taken = c.published }) document None now
-kept_take s c document (Some shown) mine now h e = record {
+-- what the log has fits the client's tree
+pub log_fits : (s : Script) (c : State) (live : LiveDocument) (log : List LogEntry) (mine : Tree) (pending : List Notice) → IsKept s c live log mine pending → FitsAll mine log
+log_fits s c live log mine pending h = subst (λ (y : Tree × List LogEntry). FitsAll y.0 y.1) (λ i. (sym h.mine_is i, sym h.log_is i)) (span_fits (tree_at s) c.taken c.published h.trees)
+
+-- the notices of a span are those of its moments
+told_of_span : (s : Script) (t p : ℕ) → notices_in (span (tree_at s) t p) ≡ notices_of s t p
+unfolding notices_of
+told_of_span s t p = span_notices (tree_at s) t p
+
+-- the client takes all that is published
+pub kept_take : (s : Script) (c : State) (live : LiveDocument) (log none : List LogEntry) (mine now : Tree) (pending told more : List Notice) → IsKept s c live log mine pending → none ≡ [] → now ≡ patched_by mine log → told ≡ notices_in log → more ≡ pending ++ told → IsKept s (record c { taken = c.published }) live none now more
+kept_take s c live log none mine now pending told more h e p n m =
+    let up = h.taken_most in
+    let low = h.noticed_most in
+    record {
+      left = h.left;
+      later = h.later;
+      accepted = h.accepted;
+      answered = h.answered;
+      trees = h.trees;
+      shown_is = h.shown_is;
+      log_is = e ∙ sym (span-none (tree_at s) c.published);
+      mine_is = p ∙ ((λ i. patched_by (h.mine_is i) (h.log_is i)) ∙ span_patches (tree_at s) c.taken c.published h.trees up);
+      pending_is = m ∙ ((λ i. h.pending_is i ++ (n ∙ (ap notices_in h.log_is ∙ told_of_span s c.taken c.published)) i) ∙ sym (notices-join s c.noticed c.taken c.published low up));
+      taken_most = omega arith;
+      noticed_most = omega arith;
+    }
+
+-- the client prints its notices
+pub kept_told : (s : Script) (c : State) (live : LiveDocument) (log : List LogEntry) (mine : Tree) (pending none : List Notice) → IsKept s c live log mine pending → none ≡ [] → IsKept s (record c { noticed = c.taken }) live log mine none
+kept_told s c live log mine pending none h e = record {
   left = h.left;
   later = h.later;
   accepted = h.accepted;
   answered = h.answered;
-  waiting_is = refl;
-  mine_is = e ∙ h.waiting_is;
-}
-kept_take s c document None mine now h e = record {
-  left = h.left;
-  later = h.later;
-  accepted = h.accepted;
-  answered = h.answered;
-  waiting_is = refl;
-  mine_is = e ∙ (h.mine_is ∙ ap (tree_at s) h.waiting_is);
+  trees = h.trees;
+  shown_is = h.shown_is;
+  log_is = h.log_is;
+  mine_is = h.mine_is;
+  pending_is = e ∙ sym (notices-none s c.taken);
+  taken_most = h.taken_most;
+  noticed_most = omega arith;
 }
 
 -- the client's tree answers what is answered at the moment taken
-pub reply_from_tree : (s : Script) (c : State) (document : Document) (waiting : Option Tree) (mine : Tree) (q : Request) (r : Result Reply NoMemory) → IsKept s c document waiting mine → IfOk r (λ x. x ≡ answer mine q) → IfOk r (λ x. x ≡ answer_at s c.taken q)
+pub reply_from_tree : (s : Script) (c : State) (live : LiveDocument) (log : List LogEntry) (mine : Tree) (pending : List Notice) (q : Request) (r : Result Reply NoMemory) → IsKept s c live log mine pending → IfOk r (λ x. x ≡ answer mine q) → IfOk r (λ x. x ≡ answer_at s c.taken q)
 unfolding answer_at
-reply_from_tree s c document waiting mine q (Ok r) h e = e ∙ ap (λ t. answer t q) h.mine_is
-reply_from_tree s c document waiting mine q (Err f) h e = e
+reply_from_tree s c live log mine pending q (Ok r) h e = e ∙ ap (λ t. answer t q) h.mine_is
+reply_from_tree s c live log mine pending q (Err f) h e = e
 
 -- what a line asks is answered
 pub line_answered : (xs : List ClientLine) (i : ℕ) (x : ClientLine) → AreAnswered xs → slice_get xs i ≡ Some x → IsTrue (is_answered_line x)

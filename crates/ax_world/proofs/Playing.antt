@@ -12,7 +12,7 @@ use Rattle.ax_base.specs.declared.ids.Who.TheVariants.{Page, Client}
 use Rattle.story_check.specs.Stories.{Script, flushes, cap, awaited, awaits_met, untils_met}
 use Rattle.story_check.proofs.Caps.{cap_past, cap_rises, untils-append, untils_rise, and_left, awaits_left, Goes}
 use Rattle.ax_ask.specs.declared.transcripts.EntryBody.TheVariants.{Await as AwaitBody}
-use Rattle.ax_world.specs.Legal.{outset, AreLegal, IsLegalSoFar, IsLegal}
+use Rattle.ax_answer.specs.Legal.{outset, AreLegal, IsLegalSoFar, IsLegal}
 use Rattle.ax_world.specs.Machine.{State, start, step, page_step, client_step, did, waits, printed, after_turns, alternate, IsOver, lines_done, played}
 use Rattle.ax_world.proofs.Standing.{first, at_seam, PageStands, ClientStands, Stands, stands_start, stands_step}
 

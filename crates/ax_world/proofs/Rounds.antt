@@ -5,9 +5,10 @@ use Rattle.ax_base.specs.declared.ids.Who.{Who}
 use Rattle.ax_base.specs.declared.ids.Who.TheVariants.{Page, Client}
 use Rattle.story_check.specs.Stories.{Script, stuck}
 use Rattle.story_check.proofs.Caps.{goes}
-use Rattle.ax_world.specs.Machine.{State, start, step, after_turns, alternate, lines_done, IsOver, played}
+use Rattle.ax_world.specs.Machine.{State, start, step, after_turns, alternate, lines_done, IsOver, InRounds, played}
+use Rattle.ax_answer.specs.Legal.{IsLegal}
 use Rattle.ax_world.proofs.Standing.{Stands}
-use Rattle.ax_world.proofs.Playing.{stands_always, after-append, alternate-add, moves, twice, played_over, same_rounds, page_within, client_within}
+use Rattle.ax_world.proofs.Playing.{stands_always, after-append, alternate-add, moves, twice, played_over, same_rounds, page_within, client_within, legal_over}
 
 pub step_more : (s : Script) (turns : List Who) (i : ℕ) (d : Who) (c new : State) → i < length turns → c ≡ after_turns s (take i turns) start → new ≡ (step s c (get_or turns i d)).state → new ≡ after_turns s (take (i + 1) turns) start
 step_more s turns i d c new h e f =
@@ -23,9 +24,6 @@ take-all (x ∷ xs) (suc i) h = ap (λ l. x ∷ l) (take-all xs i (omega arith))
 append-none : {X : Type 0} (xs : List X) → xs ++ [] ≡ xs
 append-none [] = refl
 append-none (x ∷ xs) = ap (λ l. x ∷ l) (append-none xs)
-
-pub all_turns : (s : Script) (turns xs : List Who) (i : ℕ) (c : State) → xs ≡ turns → length xs ≤ i → c ≡ after_turns s (take i xs) start → c ≡ after_turns s (turns ++ alternate 0) start
-all_turns s turns xs i c e h f = f ∙ ap (λ l. after_turns s l start) (take-all xs i h ∙ (e ∙ sym (append-none turns)))
 
 pub round_more : (s : Script) (turns : List Who) (n : ℕ) (c a b : State) → c ≡ after_turns s (turns ++ alternate n) start → a ≡ (step s c Page).state → b ≡ (step s a Client).state → b ≡ after_turns s (turns ++ alternate (n + 1)) start
 round_more s turns n c a b e f g =
@@ -49,3 +47,18 @@ round_falls s turns n c a b free e f g going = through (moves s c (goes s free) 
 
 pub round_ends : (s : Script) (n : ℕ) (c : State) → stuck s ≡ false → c ≡ after_turns s (s.turns ++ alternate n) start → IsOver s c → c ≡ played s
 round_ends s n c free e over = e ∙ same_rounds s s.turns n (length s.page + length s.client) (subst (IsOver s) e over) (played_over s (goes s free))
+
+pub no_rounds : (s : Script) (c : State) (turns : List Who) → c ≡ after_turns s turns start → c ≡ after_turns s (turns ++ alternate 0) start
+no_rounds s c turns e = e ∙ ap (λ l. after_turns s l start) (sym (append-none turns))
+
+-- what rounds lead to is what is played
+pub rounds_end : (s : Script) (c d : State) → stuck s ≡ false → c ≡ after_turns s s.turns start → InRounds s c d → IsOver s d → d ≡ played s
+rounds_end s c d free e r over = round_ends s r.0 d free (r.1 s.turns e) over
+
+-- and its entries are legal
+pub rounds_legal : (s : Script) (c d : State) (turns : List Who) → c ≡ after_turns s turns start → InRounds s c d → IsOver s d → IsLegal s d.entries
+rounds_legal s c d turns e r over = legal_over s d (stands_at s (turns ++ alternate r.0) d (r.1 turns e)) over
+
+-- all turns of a list were done
+pub all_done : (s : Script) (turns xs : List Who) (i : ℕ) (c : State) → xs ≡ turns → length xs ≤ i → c ≡ after_turns s (take i xs) start → c ≡ after_turns s turns start
+all_done s turns xs i c e h f = f ∙ ap (λ l. after_turns s l start) (take-all xs i h ∙ e)

@@ -14,8 +14,9 @@ use Rattle.story_check.specs.Stories.{Script, flushes, cap, awaited, untils_met}
 use Rattle.story_check.proofs.Caps.{flushes-append, cap_past, untils-append, untils_rise, and_true, awaited-append}
 use Rattle.ax_ask.specs.declared.transcripts.Entry.{Entry}
 use Rattle.ax_ask.specs.declared.transcripts.EntryBody.TheVariants.{Reply, Await as AwaitBody, Hear as HearBody, Notices as NoticesBody}
-use Rattle.ax_world.specs.Moments.{answer_at, notices_of}
-use Rattle.ax_world.specs.Legal.{Place, outset, IsFound, IsEntry, after_entry, AreLegal}
+use Rattle.ax_answer.specs.Moments.{answer_at, notices_of}
+use Rattle.ax_answer.specs.Legal.{Place, outset, IsFound, IsEntry, after_entry, AreLegal, place_after}
+use Rattle.ax_answer.proofs.Places.{legal-snoc, place-snoc}
 use Rattle.ax_world.specs.Machine.{State, start, step, page_step, client_step, did, waits, printed}
 
 abbrev pub first : {X : Type 0} → List X → Option X
@@ -66,24 +67,6 @@ page_later page i p m q h a = record { before = a.before; left = a.left; is = a.
 -- no more is published than may be
 pub page_capped : (page : List PageLine) (i p m : ℕ) → PageAt page i p m → p ≤ cap page m
 page_capped page i p m a = let h = cap_past a.before a.left m a.passed in let g = ap (λ l. cap l m) a.is in let f = a.flushed in omega arith
-
--- where the client stands after these lines with these entries
-abbrev pub place_after : Place → List ClientLine → List Entry → Place
-place_after c [] es = c
-place_after c (l ∷ ls) [] = c
-place_after c (l ∷ ls) (e ∷ es) = place_after (after_entry c l e) ls es
-
-pub legal-snoc : (s : Script) (c : Place) (lines : List ClientLine) (es : List Entry) (line : ClientLine) (e : Entry) → AreLegal s c lines es → e.number ≡ (place_after c lines es).lines + 1 → IsEntry s (place_after c lines es) line e → AreLegal s c (lines ++ line ∷ []) (es ++ e ∷ [])
-legal-snoc s c [] [] line e h n i = (n, i, tt)
-legal-snoc s c [] (x ∷ es) line e h n i = absurd h
-legal-snoc s c (l ∷ ls) [] line e h n i = absurd h
-legal-snoc s c (l ∷ ls) (x ∷ es) line e h n i = (h.0, h.1, legal-snoc s (after_entry c l x) ls es line e h.2 n i)
-
-pub place-snoc : (s : Script) (c : Place) (lines : List ClientLine) (es : List Entry) (line : ClientLine) (e : Entry) → AreLegal s c lines es → place_after c (lines ++ line ∷ []) (es ++ e ∷ []) ≡ after_entry (place_after c lines es) line e
-place-snoc s c [] [] line e h = refl
-place-snoc s c [] (x ∷ es) line e h = absurd h
-place-snoc s c (l ∷ ls) [] line e h = absurd h
-place-snoc s c (l ∷ ls) (x ∷ es) line e h = place-snoc s (after_entry c l x) ls es line e h.2
 
 abbrev pub place_of : State → Place
 place_of c = record { lines = c.client_done; moment = c.taken; bell = c.bell; noticed = c.noticed }

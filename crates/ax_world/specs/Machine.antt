@@ -6,13 +6,14 @@ use Rattle.story_check.specs.declared.story.PageLine.{PageLine}
 use Rattle.story_check.specs.declared.story.PageLine.TheVariants.{Change, Flush, Until}
 use Rattle.story_check.specs.declared.story.ClientLine.{ClientLine}
 use Rattle.story_check.specs.declared.story.ClientLine.TheVariants.{Ask, Again, Hear, Await, Notices}
-use Rattle.story_check.specs.Stories.{Script}
+use Rattle.story_check.specs.Stories.{Script, flushes}
 use Rattle.ax_ask.specs.declared.transcripts.Entry.{Entry}
+use Rattle.ax_ask.specs.declared.transcripts.Transcript.{Transcript}
 use Rattle.ax_ask.specs.declared.transcripts.EntryBody.{EntryBody}
 use Rattle.ax_ask.specs.declared.transcripts.EntryBody.TheVariants.{Reply, Await as AwaitBody, Hear as HearBody, Notices as NoticesBody}
 use Rattle.ax_world.specs.declared.turns.Turn.{Turn}
 use Rattle.ax_world.specs.declared.turns.Turn.TheVariants.{Did, Waiting, Done}
-use Rattle.ax_world.specs.Moments.{answer_at, notices_of}
+use Rattle.ax_answer.specs.Moments.{answer_at, notices_of}
 
 -- lines done by each side, what is published and taken, the last bell, the last moment noticed, and the entries
 pub record State : Type 0 where
@@ -76,6 +77,14 @@ abbrev pub alternate : ℕ → List Who
 alternate zero = []
 alternate (suc n) = Page ∷ Client ∷ alternate n
 
+-- some turns lead to this state
+abbrev pub IsReached : Script → State → Type 0
+IsReached s c = (turns : List Who) × (c ≡ after_turns s turns start)
+
+-- so many alternate turns lead from the first state to the second, whatever turns led to the first
+abbrev pub InRounds : Script → State → State → Type 0
+InRounds s c d = (n : ℕ) × ((turns : List Who) → c ≡ after_turns s turns start → d ≡ after_turns s (turns ++ alternate n) start)
+
 -- no side has a line left
 abbrev pub IsOver : Script → State → Type 0
 IsOver s c = (c.page_done ≡ length s.page) × (c.client_done ≡ length s.client)
@@ -86,3 +95,7 @@ lines_done c = c.page_done + c.client_done
 -- the turns of the story, and then as many alternate turns as can be of use
 abbrev pub played : Script → State
 played s = after_turns s (s.turns ++ alternate (length s.page + length s.client)) start
+
+-- the transcript of the story that is played: its entries, and the number of flushes
+abbrev pub transcript_of : Script → Transcript
+transcript_of s = record { entries = (played s).entries; flushes = flushes s.page }

@@ -4,18 +4,16 @@
 ghost use Rattle.std.specs.Prelude.{◌≡◌, ℕ, ◌+◌, ◌<◌, ◌≤◌, List, ◌++◌, false};
 ghost use Rattle.story_check.specs.Stories.{Script, cap, stuck};
 ghost use Rattle.ax_base.specs.declared.ids.Who.{Who};
-ghost use Rattle.ax_world.specs.Legal.{IsLegalSoFar, IsLegal};
-ghost use Rattle.ax_world.specs.Machine.{start, after_turns, alternate, lines_done, IsOver, played};
+ghost use Rattle.ax_answer.specs.Legal.{IsLegalSoFar, IsLegalTranscript};
+ghost use Rattle.ax_world.specs.Machine.{start, after_turns, alternate, lines_done, IsOver, played, transcript_of};
 
-mod page;
 #[cfg(test)]
 mod tests;
 mod turns;
 mod world;
 
-pub use page::tree_of;
 pub use turns::Turn;
-pub use world::{World, replay};
+pub use world::{World, play_in_turns, replay};
 
 /// After every list of turns the page has published no more than it may, and the client's entries are legal.
 ///
@@ -32,6 +30,6 @@ pub fn turns_are_legal()
 pub fn playing_ends()
     ensures moves { (s : Script) (turns : List Who) → stuck s ≡ false → (IsOver s (after_turns s turns start) → ⊥) → lines_done (after_turns s turns start) < lines_done (after_turns s (turns ++ alternate 1) start) }
     ensures ends { (s : Script) → stuck s ≡ false → IsOver s (played s) }
-    ensures legal { (s : Script) → stuck s ≡ false → IsLegal s (played s).entries }
+    ensures legal { (s : Script) → stuck s ≡ false → IsLegalTranscript s (transcript_of s) }
     ensures same { (s : Script) (n : ℕ) → stuck s ≡ false → IsOver s (after_turns s (s.turns ++ alternate n) start) → after_turns s (s.turns ++ alternate n) start ≡ played s }
 {}

@@ -4,22 +4,24 @@ ghost use Rattle.story_check.specs.declared.story.PageLine.TheVariants.{Change, 
 ghost use Rattle.story_check.specs.Stories.{Script, flushes, stuck};
 ghost use Rattle.story_check.specs.Moments.{IsAccepted};
 ghost use Rattle.ax_answer.specs.Answers.{is_answered};
-ghost use Rattle.ax_ask.specs.declared.transcripts.EntryBody.TheVariants.{Reply as ReplyBody};
-ghost use Rattle.ax_world.specs.Moments.{answer_at, AreAnswered, notices_of};
-ghost use Rattle.ax_world.specs.Machine.{start, step, page_step, client_step, printed, IsOver, played};
+ghost use Rattle.ax_ask.specs.declared.transcripts.EntryBody.TheVariants.{Reply as ReplyBody, Notices as NoticesBody};
+ghost use Rattle.ax_answer.specs.Moments.{answer_at, AreAnswered, notices_of};
+ghost use Rattle.ax_answer.specs.Legal.{IsLegalTranscript};
+ghost use Rattle.ax_world.specs.Machine.{start, step, page_step, client_step, printed, IsOver, IsReached, InRounds, transcript_of};
 ghost use Rattle.ax_world.specs.Worlds.{Gives};
 
-use crate::Turn;
-use crate::page::tree_of;
+use crate::{Turn, playing_ends};
 use ax_answer::answer;
 use ax_ask::{Entries, Entry, EntryBody, Reply, Request, Transcript};
 use ax_base::{Moment, NoMemory, Notices, Who};
-use ax_dom::{Dom, Edit};
-use ax_record::FreshTree;
+use ax_dom::Edit;
+use change_log::ChangeLog;
+use isolated_map::Isolated;
+use live_tree::{LiveTree, flush_uncounted};
 use std::alloc::Global;
 use std::marker::Model;
 use std::snapshot::Snapshot;
-use story_check::{ClientLine, PageLine, Story, base_dom, change};
+use story_check::{ClientLine, PageLine, Story, base_dom};
 
 /// The core between two turns: what the page and the client keep. A clause sees it as the story and the machine's state.
 #[derive(Drop)]
@@ -33,9 +35,14 @@ pub struct World {
     bell: u32,
     noticed: u32,
     entries: Entries,
-    document: Dom,
-    waiting: Option<FreshTree>,
-    mine: FreshTree,
+    /// The page's tree.
+    live: LiveTree,
+    /// The moments that are published and not taken.
+    log: ChangeLog,
+    /// The client's tree.
+    mine: Isolated,
+    /// The notices that were taken and not printed.
+    pending: Notices,
 }
 
 impl Model for World {
@@ -47,7 +54,7 @@ impl Model for World {
 
     ghost view = { λ w. record { story = w.story.value; state = record { page_done = w.page_done; client_done = w.client_done; published = w.published; taken = w.taken; bell = w.bell; noticed = w.noticed; entries = w.entries } } };
 
-    ghost invariant = { λ w. IsKept w.story.value (record { page_done = w.page_done; client_done = w.client_done; published = w.published; taken = w.taken; bell = w.bell; noticed = w.noticed; entries = w.entries }) w.document w.waiting w.mine × (w.count ≡ flushes w.story.value.page) };
+    ghost invariant = { λ w. IsKept w.story.value (record { page_done = w.page_done; client_done = w.client_done; published = w.published; taken = w.taken; bell = w.bell; noticed = w.noticed; entries = w.entries }) w.live w.log w.mine w.pending × (w.count ≡ flushes w.story.value.page) };
 }
 
 impl World {
@@ -58,7 +65,8 @@ impl World {
         ensures { IfOk result (λ w. w ≡ record { story = story.now; state = start }) }
     {
         let document = base_dom(alloc, story)?;
-        let mine = tree_of(alloc, &document)?;
+        let live = LiveTree::new(alloc, document)?;
+        let mine = Isolated::from_tree(alloc, &live)?;
         Ok(World {
             story: Snapshot::of(story),
             count: story.flushes(),
@@ -69,9 +77,10 @@ impl World {
             bell: 0,
             noticed: 0,
             entries: Entries::new(alloc),
-            document,
-            waiting: None,
+            live,
+            log: ChangeLog::empty(alloc),
             mine,
+            pending: Notices::new(alloc),
         })
     }
 
@@ -118,13 +127,15 @@ impl World {
         requires done { done ≡ self.state.page_done + 1 }
         ensures { IfOk result (λ w. w ≡ record { story = self.story; state = record self.state { page_done = done } }) }
     {
-        let mut document = self.document;
-        change(alloc, &mut document, edit)?;
-        Ok(World {
-            page_done: done,
-            document,
-            ..self
-        })
+        let mut live = self.live;
+        match live.edit(alloc, edit) {
+            Ok(()) => Ok(World {
+                page_done: done,
+                live,
+                ..self
+            }),
+            Err(_) => Err(NoMemory),
+        }
     }
 
     /// The page publishes one more moment.
@@ -134,12 +145,15 @@ impl World {
         requires done { done ≡ self.state.page_done + 1 }
         ensures { IfOk result (λ w. w ≡ record { story = self.story; state = record self.state { page_done = done; published = self.state.published + 1 } }) }
     {
-        let shown = tree_of(alloc, &self.document)?;
         let published = self.published + 1;
+        let (live, made) = flush_uncounted(alloc, self.live, Moment(published))?;
+        let mut log = self.log;
+        log.append(made.batch, made.notices)?;
         Ok(World {
             page_done: done,
             published,
-            waiting: Some(shown),
+            live,
+            log,
             ..self
         })
     }
@@ -168,7 +182,7 @@ impl World {
             return Ok((self, Turn::Done));
         }
         match &client[self.client_done] {
-            ClientLine::Ask(request) => Ok((self.take().replied(alloc, request)?, Turn::Did)),
+            ClientLine::Ask(request) => Ok((self.take(alloc)?.replied(alloc, request)?, Turn::Did)),
             ClientLine::Again(request) => Ok((self.replied(alloc, request)?, Turn::Did)),
             ClientLine::Hear => {
                 let bell = self.published;
@@ -178,31 +192,46 @@ impl World {
             ClientLine::Await(need) => {
                 let (need, have) = (*need, Moment(self.published));
                 if need.number() <= have.number() {
-                    let world = self.take().printed(have.number(), EntryBody::Await)?;
+                    let world = self.take(alloc)?.printed(have.number(), EntryBody::Await)?;
                     Ok((world, Turn::Did))
                 } else {
                     Ok((self, Turn::Waiting { need, have }))
                 }
             }
-            ClientLine::Notices => {
-                let noticed = self.taken;
-                let world = self.printed(noticed, EntryBody::Notices(no_notices(alloc)))?;
-                Ok((World { noticed, ..world }, Turn::Did))
-            }
+            ClientLine::Notices => Ok((self.told(alloc)?, Turn::Did)),
         }
     }
 
     /// The client takes all that is published.
-    fn take(self) -> World
-        ensures { result ≡ record { story = self.story; state = record self.state { taken = self.state.published } } }
+    fn take(self, alloc: Global) -> Result<World, NoMemory>
+        ensures { IfOk result (λ w. w ≡ record { story = self.story; state = record self.state { taken = self.state.published } }) }
     {
-        let mine = self.waiting.unwrap_or(self.mine);
-        World {
+        let (mine, told) = self.mine.patch(alloc, self.log)?;
+        let mut pending = self.pending;
+        pending.extend(told)?;
+        Ok(World {
             taken: self.published,
-            waiting: None,
+            log: ChangeLog::empty(alloc),
             mine,
+            pending,
             ..self
-        }
+        })
+    }
+
+    /// The client prints the notices that it took and did not print, for its next line.
+    fn told(self, alloc: Global) -> Result<World, NoMemory>
+        requires few { length self.story.client ≤ 16384 }
+        requires line { self.state.client_done < length self.story.client }
+        ensures { IfOk result (λ w. w ≡ record { story = self.story; state = record (printed self.state self.state.taken (NoticesBody (notices_of self.story self.state.noticed self.state.taken))) { noticed = self.state.taken } }) }
+    {
+        let told = self.pending;
+        let moment = self.taken;
+        let world = World {
+            noticed: moment,
+            pending: Notices::new(alloc),
+            ..self
+        };
+        world.printed(moment, EntryBody::Notices(told))
     }
 
     /// What the client's tree answers.
@@ -265,32 +294,50 @@ impl World {
     }
 }
 
-/// No notices are told yet.
-#[tactic(auto, unfolding(crate::specs::Moments::notices_of))]
-fn no_notices(alloc: Global) -> Notices
-    ensures { (s : Script) (t p : ℕ) → result ≡ notices_of s t p }
-{
-    Notices::new(alloc)
-}
-
 /// Plays a story that is not stuck: its turns, and then alternate turns until both sides are done. All its edits are
-/// accepted, and all its requests answered. The only error is want of memory.
+/// accepted, and all its requests answered. Its transcript is legal. The only error is want of memory.
 pub fn replay(alloc: Global, story: &Story) -> Result<Transcript, NoMemory>
     requires free { stuck story.now ≡ false }
     requires accepted { IsAccepted story.now }
     requires answered { AreAnswered story.now.client }
-    ensures entries { IfOk result (λ t. t.entries ≡ (played story.now).entries) }
-    ensures flushes { IfOk result (λ t. t.flushes ≡ flushes story.now.page) }
+    ensures value { IfOk result (λ t. t ≡ transcript_of story.now) }
+    ensures legal { IfOk result (λ t. IsLegalTranscript story.now t) }
 {
+    playing_ends();
     let mut world = World::new(alloc, story)?;
     for who in story.turns() {
         let (next, _) = world.turn(alloc, story, *who)?;
         world = next;
     }
+    Ok(in_rounds(alloc, story, world)?.into_transcript())
+}
+
+/// Plays a story that is not stuck in alternate turns, the page first, and without its turn list: its transcript is legal, as
+/// that of every order of turns. All its edits are accepted, and all its requests answered. The only error is want of memory.
+pub fn play_in_turns(alloc: Global, story: &Story) -> Result<Transcript, NoMemory>
+    requires free { stuck story.now ≡ false }
+    requires accepted { IsAccepted story.now }
+    requires answered { AreAnswered story.now.client }
+    ensures { IfOk result (λ t. IsLegalTranscript story.now t) }
+{
+    let world = World::new(alloc, story)?;
+    Ok(in_rounds(alloc, story, world)?.into_transcript())
+}
+
+/// Plays on in alternate turns, the page first, until both sides are done.
+fn in_rounds(alloc: Global, story: &Story, world: World) -> Result<World, NoMemory>
+    requires free { stuck story.now ≡ false }
+    requires story { world.story ≡ story.now }
+    requires state { IsReached story.now world.state }
+    ensures story { IfOk result (λ w. w.story ≡ story.now) }
+    ensures rounds { IfOk result (λ w. InRounds story.now world.state w.state) }
+    ensures over { IfOk result (λ w. IsOver story.now w.state) }
+{
+    let mut world = world;
     'rounds: while !world.is_over(story) {
         let (after_page, _) = world.turn(alloc, story, Who::Page)?;
         let (after_client, _) = after_page.turn(alloc, story, Who::Client)?;
         world = after_client;
     }
-    Ok(world.into_transcript())
+    Ok(world)
 }

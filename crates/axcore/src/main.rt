@@ -1,7 +1,7 @@
 //! The accessibility core as a program: it does what the words say, and ends with the status number.
 #![tactic(auto)]
 
-use ax_edge::{LoneSpawner, OpenGate, StdSink, StdSource};
+use ax_edge::{OpenGate, ScopeSpawner, StdSink, StdSource};
 use ax_session::axcore;
 use std::alloc::Global;
 use std::process::ExitCode;
@@ -33,10 +33,12 @@ fn main(rt: HostRuntime) -> ExitCode {
         &mut source,
         &mut sink,
         &OpenGate,
-        &mut LoneSpawner,
+        &mut ScopeSpawner,
     );
     ExitCode::from(status.number())
 }
 
+#[cfg(test)]
+mod meeting;
 #[cfg(test)]
 mod tests;

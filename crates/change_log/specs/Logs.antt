@@ -20,15 +20,6 @@ entries_after trees t (suc n) = entry_after trees t ∷ entries_after trees (t +
 abbrev pub span : (ℕ → Tree) → ℕ → ℕ → List LogEntry
 span trees t p = entries_after trees t (p - t)
 
--- the notices of the n moments after t, joined
-abbrev pub notices_after : (ℕ → Tree) → ℕ → ℕ → List Notice
-notices_after trees t zero = []
-notices_after trees t (suc n) = notices_between (trees t) (trees (t + 1)) (t + 1) ++ notices_after trees (t + 1) n
-
--- the notices of the moments t+1 to p, joined
-abbrev pub notices_of : (ℕ → Tree) → ℕ → ℕ → List Notice
-notices_of trees t p = notices_after trees t (p - t)
-
 -- the tree after all batches of a log
 abbrev pub patched_by : Tree → List LogEntry → Tree
 patched_by a [] = a

@@ -2,9 +2,9 @@
 ghost use Rattle.std.specs.Prelude.{◌≡◌, ◌++◌, IfOk, OnOk, None, option_copied, unwrap_or};
 ghost use Rattle.std.specs.List.{flat_map};
 ghost use Rattle.ax_base.specs.Document.{root};
-ghost use Rattle.ax_record.specs.Tree.{Tree, record_at};
+ghost use Rattle.ax_record.specs.Tree.{Tree, record_at, made_at};
 ghost use Rattle.ax_record.specs.ObjectTrees.{IsObjectTree};
-ghost use Rattle.ax_batch.specs.Batches.{added_at, made_at, with_added, patched};
+ghost use Rattle.ax_batch.specs.Batches.{added_at, with_added, patched};
 ghost use Rattle.change_log.specs.Logs.{patched_by, notices_in, FitsAll};
 ghost use Rattle.isolated_map.specs.Rising.{no_tree};
 

@@ -5,4 +5,4 @@ mod live;
 #[cfg(test)]
 mod tests;
 
-pub use live::{Flushed, LiveTree};
+pub use live::{Flushed, LiveTree, flush_uncounted};

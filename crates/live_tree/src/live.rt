@@ -13,7 +13,7 @@ ghost use Rattle.ax_notice.specs.Notices.{notices_between};
 use ax_base::{Moment, NoMemory, Notices, ObjId, Steps};
 use ax_batch::{Batch, batch_between};
 use ax_dom::{Dom, Edit, EditCause};
-use ax_fresh::build;
+use ax_fresh::{build, tree_of};
 use ax_notice::notices_between;
 use ax_record::{FreshTree, Record, TreeView};
 use std::alloc::Global;
@@ -65,7 +65,7 @@ impl LiveTree {
     pub fn new(alloc: Global, dom: Dom) -> Result<LiveTree, NoMemory>
         ensures { IfOk result (λ t. t ≡ record { flushed = tree dom; document = dom }) }
     {
-        let flushed = tree_of::<Brand>(alloc, &dom, Blank::new(1))?;
+        let flushed = tree_of(alloc, &dom)?;
         Ok(LiveTree {
             flushed,
             document: dom,
@@ -108,14 +108,34 @@ impl LiveTree {
     }
 }
 
-/// The tree of a document, where the reads of the document are counted on a ledger that this blank opens.
-fn tree_of<L: Ledger>(alloc: Global, document: &Dom, blank: Blank) -> Result<FreshTree, NoMemory>
+/// Flushes a live tree on a count of its own, for a caller that counts no reads.
+pub fn flush_uncounted(
+    alloc: Global,
+    live: LiveTree,
+    moment: Moment,
+) -> Result<(LiveTree, Flushed), NoMemory>
+    ensures tree { IfOk result (λ r. r.0 ≡ record { flushed = tree live.document; document = live.document }) }
+    ensures batch { IfOk result (λ r. r.1.batch ≡ batch_between live.flushed (tree live.document)) }
+    ensures notices { IfOk result (λ r. r.1.notices ≡ notices_between live.flushed (tree live.document) moment) }
+{
+    counted_flush::<Brand>(alloc, live, moment, Blank::new(1))
+}
+
+/// The flush, where the reads of the document are counted on a ledger that this blank opens.
+fn counted_flush<L: Ledger>(
+    alloc: Global,
+    live: LiveTree,
+    moment: Moment,
+    blank: Blank,
+) -> Result<(LiveTree, Flushed), NoMemory>
     requires name { blank.name ≡ L.name }
     requires parts { blank.parts ≡ L.parts }
     requires some { 0 < blank.parts }
-    ensures { IfOk result (λ t. t ≡ tree document.now) }
+    ensures tree { IfOk result (λ r. r.0 ≡ record { flushed = tree live.document; document = live.document }) }
+    ensures batch { IfOk result (λ r. r.1.batch ≡ batch_between live.flushed (tree live.document)) }
+    ensures notices { IfOk result (λ r. r.1.notices ≡ notices_between live.flushed (tree live.document) moment) }
 {
     let (book, share) = blank.open::<L>();
     let mut steps = Steps::new(book, share);
-    build(alloc, document, &mut steps)
+    live.flush(alloc, moment, &mut steps)
 }

@@ -6,7 +6,7 @@ use Rattle.story_check.specs.declared.story.PageLine.{PageLine}
 use Rattle.story_check.specs.declared.story.PageLine.TheVariants.{Change, Flush, Until}
 use Rattle.story_check.specs.declared.story.ClientLine.{ClientLine}
 use Rattle.story_check.specs.declared.story.ClientLine.TheVariants.{Ask, Again, Hear, Await, Notices}
-use Rattle.story_check.specs.Stories.{Script, flushes, cap, awaited, awaits_met, untils_met, stuck, unflushed, closed}
+use Rattle.story_check.specs.Stories.{Script, flushes, cap, awaited, awaits_met, untils_met, stuck}
 
 if_le : (b : Bool) (n m : ℕ) → n ≤ m → (if b then 0 else n) ≤ m
 if_le true n m h = omega arith
@@ -40,14 +40,6 @@ flushes-append (Until k ∷ xs) left = flushes-append xs left
 -- one line more
 pub flushes_with : (xs : List PageLine) (l : PageLine) → flushes (xs ++ l ∷ []) ≡ flushes xs + flushes (l ∷ [])
 flushes_with xs l = flushes-append xs (l ∷ [])
-
--- the closing flush is one at most
-pub flushes_closed : (xs : List PageLine) → flushes (closed xs) ≤ flushes xs + 1
-flushes_closed xs = through (unflushed false xs)
-  where
-    through : (b : Bool) → flushes (if b then xs ++ Flush ∷ [] else xs) ≤ flushes xs + 1
-    through true = let h = flushes_with xs Flush in omega arith
-    through false = omega arith
 
 -- past lines that do not wait, the cap is that of what is left
 pub cap_past : (before left : List PageLine) (t : ℕ) → untils_met t before ≡ true → cap (before ++ left) t ≡ flushes before + cap left t

@@ -19,15 +19,15 @@ pub record IsLeft (last d : Document) (xs : List PageLine) (k : ℕ) : Type 0 wh
   pub all : k ≡ flushes xs
   pub accepted : AreLinesAccepted d xs
 
-change_same : (d : Document) (e : Edit) (xs : List PageLine) (k : ℕ) → 0 < k → after_flushes d (Change e ∷ xs) k ≡ after_flushes (edited d e) xs k
+pub change_same : (d : Document) (e : Edit) (xs : List PageLine) (k : ℕ) → 0 < k → after_flushes d (Change e ∷ xs) k ≡ after_flushes (edited d e) xs k
 change_same d e xs zero h = absurd (omega arith)
 change_same d e xs (suc k) h = refl
 
-until_same : (d : Document) (m : ℕ) (xs : List PageLine) (k : ℕ) → 0 < k → after_flushes d (Until m ∷ xs) k ≡ after_flushes d xs k
+pub until_same : (d : Document) (m : ℕ) (xs : List PageLine) (k : ℕ) → 0 < k → after_flushes d (Until m ∷ xs) k ≡ after_flushes d xs k
 until_same d m xs zero h = absurd (omega arith)
 until_same d m xs (suc k) h = refl
 
-flush_same : (d : Document) (xs : List PageLine) (k less : ℕ) → k ≡ suc less → after_flushes d (Flush ∷ xs) k ≡ after_flushes d xs less
+pub flush_same : (d : Document) (xs : List PageLine) (k less : ℕ) → k ≡ suc less → after_flushes d (Flush ∷ xs) k ≡ after_flushes d xs less
 flush_same d xs k less h = ap (after_flushes d (Flush ∷ xs)) h
 
 pub past_change : (last d new : Document) (e : Edit) (xs : List PageLine) (k : ℕ) → 0 < k → new ≡ edited d e → IsLeft last d (Change e ∷ xs) k → IsLeft last new xs k

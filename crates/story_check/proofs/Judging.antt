@@ -32,25 +32,3 @@ judged_no_utf8 bytes h bad = rw (fits (length bytes) h, not_true (is_utf8 bytes)
 pub judged_text : (bytes : List ℕ) → length bytes ≤ 2 ^ 24 → IsUtf8 bytes → judged bytes ≡ judged_lines (pieces bytes)
 unfolding judged
 judged_text bytes h u = rw (fits (length bytes) h, is_utf8-from_IsUtf8 bytes u) refl
-
--- an answer for the lines is one for the bytes
-pub accepts_bytes : (r : Result Script AcceptFail) (bytes text : List ℕ) → length bytes ≤ 2 ^ 24 → IsUtf8 bytes → text ≡ bytes
-    → Accepts r (judged_lines (pieces text)) → Accepts r (judged bytes)
-accepts_bytes r bytes text h u same e = subst (λ w. Accepts r w) (ap (λ (b : List ℕ). judged_lines (pieces b)) same ∙ sym (judged_text bytes h u)) e
-
--- a failure of the lines is one of the story
-pub fails_lines : (fail : AcceptFail) (lines : List (List ℕ)) → AcceptFails fail (after_lines 1 at_first lines) → AcceptFails fail (judged_lines lines)
-fails_lines NoMemory lines e = tt
-fails_lines (Refused refusal) lines e = through (after_lines 1 at_first lines) e
-  where
-    through : (r : Result Progress Refusal) → r ≡ Err refusal → ended r ≡ Err refusal
-    through (Ok z) f = absurd (cc)
-    through (Err z) f = cc
-
--- an answer at the end of the lines is one for the story
-pub accepts_end : (r : Result Script AcceptFail) (lines : List (List ℕ)) (first p : Progress) → first ≡ at_first → after_lines 1 first lines ≡ Ok p → Accepts r (at_end p) → Accepts r (judged_lines lines)
-accepts_end r lines first p begin same e = subst (λ w. Accepts r w) (sym (through (after_lines 1 at_first lines) (subst (λ (q : Progress). after_lines 1 q lines ≡ Ok p) begin same))) e
-  where
-    through : (w : Result Progress Refusal) → w ≡ Ok p → ended w ≡ at_end p
-    through (Ok z) f = cc
-    through (Err z) f = absurd (cc)

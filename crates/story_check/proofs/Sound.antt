@@ -192,7 +192,7 @@ sound-after n p q (Ok None) near h e = subst (λ (z : Progress). IsSound z) (unl
 sound-after n p q (Ok (Some line)) near h e = let both = unless-ok n (line_cause p line) (line_effect n p line) q e in subst (λ (z : Progress). IsSound z) both.1 (sound-line n p line both.0 (near line refl) h)
 sound-after n p q (Err fail) near h e = let both = unless-ok n (read_cause fail) p q e in subst (λ (z : Progress). IsSound z) both.1 h
 
-sound-lines : (n : ℕ) (p q : Progress) (lines : List (List ℕ)) → IsSound p → after_lines n p lines ≡ Ok q → IsSound q
+pub sound-lines : (n : ℕ) (p q : Progress) (lines : List (List ℕ)) → IsSound p → after_lines n p lines ≡ Ok q → IsSound q
 sound-lines n p q [] h e = subst (λ (z : Progress). IsSound z) (unless-ok n None p q e).1 h
 sound-lines n p q (l ∷ ls) h e = through (after_line n p (line_of l)) (λ z. sound-after n p z (line_of l) (line_keeps_bounds l) h) e (λ z. sound-lines (n + 1) z q ls)
   where
@@ -200,7 +200,7 @@ sound-lines n p q (l ∷ ls) h e = through (after_line n p (line_of l)) (λ z. s
     through (Ok z) f g more = more z (f z refl) g
     through (Err z) f g more = absurd (cc)
 
-sound-first : IsSound at_first
+pub sound-first : IsSound at_first
 sound-first = record { base = tt; lines = tt; now = refl; unstarted = λ f. refl }
 
 -- what a story that is accepted has
@@ -230,18 +230,9 @@ good-end p s h e = through (end_refusal p) refl e
     through None f g = subst (λ (z : Script). IsGood z) (same g) (story f)
     through (Some z) f g = absurd (cc)
 
-good-lines : (lines : List (List ℕ)) (s : Script) → judged_lines lines ≡ Ok s → IsGood s
+pub good-lines : (lines : List (List ℕ)) (s : Script) → judged_lines lines ≡ Ok s → IsGood s
 good-lines lines s e = through (after_lines 1 at_first lines) refl e
   where
     through : (r : Result Progress Refusal) → after_lines 1 at_first lines ≡ r → ended r ≡ Ok s → IsGood s
     through (Ok p) f g = good-end p s (sound-lines 1 at_first p lines sound-first f) g
     through (Err z) f g = absurd (cc)
-
--- the same of an answer
-pub accepted_of : (r : Result Script AcceptFail) (lines : List (List ℕ)) → Accepts r (judged_lines lines) → IfOk r (λ s. IsAccepted s)
-accepted_of (Ok s) lines e = (good-lines lines s e).accepted
-accepted_of (Err fail) lines e = tt
-
-pub free_of : (r : Result Script AcceptFail) (lines : List (List ℕ)) → Accepts r (judged_lines lines) → IfOk r (λ s. stuck s ≡ false)
-free_of (Ok s) lines e = (good-lines lines s e).free
-free_of (Err fail) lines e = tt

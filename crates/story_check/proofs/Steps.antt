@@ -1,5 +1,5 @@
 -- One line of a story after another.
-use Rattle.std.proofs.Common.{◌≡◌, ℕ, ◌+◌, ◌-◌, ◌<◌, ◌==◌, List, ◌∷◌, length, refl, sym, ap, ◌∙◌, subst, arith}
+use Rattle.std.proofs.Common.{◌≡◌, ℕ, ◌+◌, ◌-◌, ◌<◌, ◌==◌, List, ◌∷◌, length, Bool, refl, sym, ap, ◌∙◌, subst, arith}
 use Rattle.std.specs.Prelude.{Result, Ok, Err}
 use Rattle.std.specs.List.{after_first, position_or_len}
 use Rattle.std.proofs.lemmas.List.{length-drop}
@@ -9,7 +9,8 @@ use Rattle.story_lines.specs.Lines.{line_of}
 use Rattle.story_check.specs.declared.refusals.Refusal.{Refusal}
 use Rattle.story_check.specs.declared.refusals.AcceptFail.{AcceptFail}
 use Rattle.story_check.specs.declared.refusals.AcceptFail.TheVariants.{Refused, NoMemory}
-use Rattle.story_check.specs.Acceptance.{Progress, after_line, after_lines, pieces, AcceptFails, Comes, IsFirstLine, HasNoLineFeed}
+use Rattle.story_check.specs.Acceptance.{Progress, after_line, after_lines, pieces, AcceptFails, IsFirstLine, HasNoLineFeed}
+use Rattle.story_check.specs.Holding.{Held, held, GoesOn}
 
 -- the first line comes first
 split : (n : ℕ) (p : Progress) (text line after : List ℕ) → IsFirstLine text line after
@@ -53,15 +54,37 @@ pub fails_at : (fail : AcceptFail) (n : ℕ) (p : Progress) (text line after : L
 fails_at NoMemory n p text line after what h same e = tt
 fails_at (Refused refusal) n p text line after what h same e = sym same ∙ breaks n p refusal text line after h e
 
+-- what is held of these lines, by what it says of itself
+pub own_keeps : (keeps : Bool) (h : Held) (q : Progress) → h ≡ held keeps q → h ≡ held h.keeps q
+own_keeps keeps h q is = is ∙ ap (λ (b : Bool). held b q) (sym (ap (λ (z : Held). z.keeps) is))
+
+-- what is held of lines that come to what all lines come to, with those that are left
+abbrev pub Leads : Bool → Held → ℕ → List ℕ → Result Progress Refusal → Type 0
+Leads keeps h n text what = (q : Progress) × (h ≡ held keeps q) × (after_lines n q (pieces text) ≡ what)
+
+pub leads_on : (keeps : Bool) (h new : Held) (n : ℕ) (text line after : List ℕ) (what : Result Progress Refusal) → IsFirstLine text line after
+    → ((q : Progress) → h ≡ held h.keeps q → (z : Progress) × (after_line n q (line_of line) ≡ Ok z) × (new ≡ held h.keeps z))
+    → Leads keeps h n text what → Leads keeps new (n + 1) after what
+leads_on keeps h new n text line after what first step (q, is, same) =
+    let next = step q (own_keeps keeps h q is) in
+    (next.0, next.2 ∙ ap (λ (b : Bool). held b next.0) (ap (λ (z : Held). z.keeps) is), sym (goes_on n q next.0 text line after first next.1) ∙ same)
+
+-- what fails at the first line that is left, fails as all lines do
+pub leads_wrong : (fail : AcceptFail) (keeps : Bool) (h : Held) (n : ℕ) (text line after : List ℕ) (what : Result Progress Refusal) → IsFirstLine text line after
+    → ((q : Progress) → h ≡ held h.keeps q → AcceptFails fail (after_line n q (line_of line))) → Leads keeps h n text what → AcceptFails fail what
+leads_wrong fail keeps h n text line after what first step (q, is, same) = fails_at fail n q text line after what first same (step q (own_keeps keeps h q is))
+
 -- the last line comes to what all come to
-pub comes_last : {T : Type 0} (r : Result T AcceptFail) (new : Progress) (n : ℕ) (p : Progress) (text : List ℕ) (what : Result Progress Refusal) → HasNoLineFeed text
-    → after_lines n p (pieces text) ≡ what → Comes r new (after_line n p (line_of text)) → Comes r new what
-comes_last r new n p text what h same e = subst (λ w. Comes r new w) (sym (ends n p text h) ∙ same) e
+pub leads_to_end : {T : Type 0} (r : Result T AcceptFail) (keeps : Bool) (h new : Held) (n : ℕ) (text : List ℕ) (what : Result Progress Refusal) → HasNoLineFeed text
+    → ((q : Progress) → h ≡ held h.keeps q → GoesOn r h.keeps new (after_line n q (line_of text))) → Leads keeps h n text what → GoesOn r keeps new what
+leads_to_end r keeps h new n text what last step (q, is, same) =
+    subst (λ (b : Bool). GoesOn r b new what) (ap (λ (z : Held). z.keeps) is)
+    (subst (λ w. GoesOn r h.keeps new w) (sym (ends n q text last) ∙ same) (step q (own_keeps keeps h q is)))
 
 -- a failure that is handed on
-pub fails_after : {T : Type 0} (r : Result T AcceptFail) (fail e : AcceptFail) (new : Progress) (what : Result Progress Refusal) → r ≡ Err fail → fail ≡ e → AcceptFails e what → Comes r new what
-fails_after (Ok x) fail e new what f g h = absurd (cc)
-fails_after (Err y) fail e new what f g h = let same : y ≡ e = cc in subst (λ (z : AcceptFail). AcceptFails z what) (sym same) h
+pub fails_after : {T : Type 0} (r : Result T AcceptFail) (fail e : AcceptFail) (keeps : Bool) (new : Held) (what : Result Progress Refusal) → r ≡ Err fail → fail ≡ e → AcceptFails e what → GoesOn r keeps new what
+fails_after (Ok x) fail e keeps new what f g h = absurd (cc)
+fails_after (Err y) fail e keeps new what f g h = let same : y ≡ e = cc in subst (λ (z : AcceptFail). AcceptFails z what) (sym same) h
 
 fewer : (n k : ℕ) → k < n → n - (k + 1) < n
 fewer n k h = omega arith

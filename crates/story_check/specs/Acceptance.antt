@@ -127,8 +127,8 @@ line_effect n p (AwaitLine a) = with_await n a (with_client (Await a) p)
 line_effect n p NoticesLine = with_client Notices p
 line_effect n p (TurnsLine text) = record p { turns = Some (map side text) }
 
--- a refusal of line n for this cause, or where there is none, what these lines come to
-abbrev pub unless : ℕ → Option Cause → Progress → Result Progress Refusal
+-- a refusal of line n for this cause, or where there is none, what the lines come to
+abbrev pub unless : {A : Type 0} → ℕ → Option Cause → A → Result A Refusal
 unless n None p = Ok p
 unless n (Some cause) p = Err (record { line = n; cause = cause })
 
@@ -222,7 +222,7 @@ abbrev pub edit_fail : ℕ → EditCause → AcceptFail
 edit_fail n cause = elim (cause_of cause) [ Some known ↦ Refused (record { line = n; cause = known }) | None ↦ NoMemory ]
 
 -- what a call leaves, `new`, is what is wanted, or its failure is
-abbrev pub Comes : {T : Type 0} → Result T AcceptFail → Progress → Result Progress Refusal → Type 0
+abbrev pub Comes : {T A : Type 0} → Result T AcceptFail → A → Result A Refusal → Type 0
 Comes (Ok _) new what = what ≡ Ok new
 Comes (Err fail) new what = AcceptFails fail what
 

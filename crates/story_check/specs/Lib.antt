@@ -2,3 +2,5 @@ pub mod Stories
 pub mod Moments
 pub mod Passes
 pub mod Acceptance
+pub mod Holding
+pub mod Last

@@ -6,6 +6,7 @@ use Rattle.ax_dom.specs.Bounds.{EditKeepsBounds}
 use Rattle.ax_dom.specs.Changes.{edited, new_document}
 use Rattle.ax_dom.specs.Refusals.{edit_cause}
 use Rattle.ax_record.specs.Tree.{Tree}
+use Rattle.ax_record.specs.ObjectTrees.{IsObjectTree}
 use Rattle.ax_record.specs.Records.{tree}
 use Rattle.story_check.specs.declared.story.PageLine.{PageLine}
 use Rattle.story_check.specs.declared.story.PageLine.TheVariants.{Change, Flush, Until}
@@ -52,3 +53,7 @@ AreLinesAccepted d (Until k ∷ xs) = AreLinesAccepted d xs
 pub record IsAccepted (s : Script) : Type 0 where
   pub base : AreAccepted new_document s.base
   pub lines : AreLinesAccepted (after_edits new_document s.base) s.page
+
+-- the tree of each moment is one whose objects hang together
+abbrev pub AreTrees : Script → Type 0
+AreTrees s = (k : ℕ) → IsObjectTree (tree_at s k)

@@ -1,13 +1,16 @@
 //! Accepting a story.
-ghost use Rattle.std.specs.Prelude.{◌≡◌, ◌≤◌, ◌+◌, ◌^◌, length, false, IfOk, IfSome, MatchOption};
+ghost use Rattle.std.specs.Prelude.{◌≡◌, ◌≤◌, ◌+◌, ◌^◌, length, false, IfOk, IfErr, IfSome, MatchOption};
 ghost use Rattle.std.specs.Str.{IsUtf8};
 ghost use Rattle.story_check.specs.Moments.{IsAccepted};
-ghost use Rattle.story_check.specs.Stories.{stuck};
-ghost use Rattle.story_check.specs.Acceptance.{at_first, after_lines, pieces, judged, judged_lines, Accepts, Comes, IsFirstLine, HasNoLineFeed};
+ghost use Rattle.story_check.specs.Stories.{Script, stuck};
+ghost use Rattle.story_check.specs.Acceptance.{Progress, after_lines, pieces, judged, judged_lines, Accepted, AcceptFails, Accepts, IsFirstLine, HasNoLineFeed};
+ghost use Rattle.story_check.specs.Holding.{held, told_where, GoesOn};
+ghost use Rattle.story_check.specs.Last.{IsLastOf};
 
 use crate::progress::Reading;
 use crate::refusals::whole;
-use crate::{AcceptFail, Cause, Story};
+use crate::{AcceptFail, Cause, LastMoment, Story};
+use ax_dom::Dom;
 use std::alloc::Global;
 
 /// The most bytes of a story.
@@ -20,23 +23,43 @@ pub fn accept(alloc: Global, bytes: &[u8]) -> Result<Story, AcceptFail>
     ensures accepted { IfOk result (λ s. IsAccepted s) }
     ensures free { IfOk result (λ s. stuck s ≡ false) }
 {
+    let (story, _document) = judge(alloc, bytes, true)?;
+    Ok(story)
+}
+
+/// The last moment of the story of these bytes, or their first refusal, as `accept` has it. It takes one pass over the lines, and
+/// keeps no edit: each becomes the document's.
+pub fn accept_last(alloc: Global, bytes: &[u8]) -> Result<LastMoment, AcceptFail>
+    ensures last { IfOk result (λ last. (story : Script) × Accepted bytes.now story × IsLastOf story last) }
+    ensures refused { IfErr result (λ fail. AcceptFails fail (judged bytes.now)) }
+{
+    let (story, document) = judge(alloc, bytes, false)?;
+    Ok(LastMoment {
+        flushes: story.flushes(),
+        client: story.into_client(),
+        document,
+    })
+}
+
+/// The story of these bytes, which has its edits where they are kept, and the document of its last moment, or their first refusal.
+fn judge(alloc: Global, bytes: &[u8], keeps: bool) -> Result<(Story, Dom), AcceptFail>
+    ensures { Accepts result (told_where keeps (judged bytes.now)) }
+{
     if bytes.len() > MAX_BYTES {
         return Err(whole(Cause::StoryTooLong));
     }
     match str::from_utf8(bytes) {
-        Ok(text) => accept_lines(alloc, text),
+        Ok(text) => judge_lines(alloc, text, keeps),
         Err(_) => Err(whole(Cause::NotUtf8)),
     }
 }
 
-/// The story of these lines, or their first refusal.
-fn accept_lines(alloc: Global, text: &str) -> Result<Story, AcceptFail>
+/// The same for these lines.
+fn judge_lines(alloc: Global, text: &str, keeps: bool) -> Result<(Story, Dom), AcceptFail>
     requires short { length text.now ≤ 2 ^ 24 }
-    ensures value { Accepts result (judged_lines (pieces text.now)) }
-    ensures accepted { IfOk result (λ s. IsAccepted s) }
-    ensures free { IfOk result (λ s. stuck s ≡ false) }
+    ensures { Accepts result (told_where keeps (judged_lines (pieces text.now))) }
 {
-    let mut reading = Reading::new(alloc)?;
+    let mut reading = Reading::new(alloc, keeps)?;
     read_lines(alloc, &mut reading, text)?;
     reading.finish(alloc)
 }
@@ -44,7 +67,7 @@ fn accept_lines(alloc: Global, text: &str) -> Result<Story, AcceptFail>
 /// Reads all lines, from the first.
 fn read_lines(alloc: Global, reading: &mut Reading, text: &str) -> Result<(), AcceptFail>
     requires short { length text.now ≤ 2 ^ 24 }
-    ensures { Comes result reading.new (after_lines 1 reading.old (pieces text.now)) }
+    ensures { (p : Progress) → reading.old ≡ held reading.old.keeps p → GoesOn result reading.old.keeps reading.new (after_lines 1 p (pieces text.now)) }
 {
     let mut rest = text;
     let mut number = 1;

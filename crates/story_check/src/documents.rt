@@ -1,5 +1,5 @@
 //! The documents of a story's moments.
-ghost use Rattle.std.specs.Prelude.{◌≡◌, None, IfOk, OnOk};
+ghost use Rattle.std.specs.Prelude.{◌≡◌, None, IfOk, OnOk, OnErr};
 ghost use Rattle.ax_dom.specs.Bounds.{EditKeepsBounds};
 ghost use Rattle.ax_dom.specs.Changes.{edited, new_document};
 ghost use Rattle.ax_dom.specs.Refusals.{edit_cause};
@@ -30,16 +30,16 @@ pub fn last_dom(alloc: Global, story: &Story) -> Result<Dom, NoMemory>
     flushed_dom(alloc, document, story.page(), story.flushes())
 }
 
-/// Does an edit that nothing refuses, so that only memory can be wanting. Its rectangles are within bounds.
+/// Does an edit that nothing refuses, so that only memory can be wanting. Its rectangles are within bounds. At an error the
+/// document is unchanged.
 pub fn change(alloc: Global, document: &mut Dom, edit: &Edit) -> Result<(), NoMemory>
     requires free { edit_cause document.old edit.now ≡ None }
     requires within { EditKeepsBounds edit.now }
-    ensures { OnOk result (document.new ≡ edited document.old edit.now) }
+    ensures ok { OnOk result (document.new ≡ edited document.old edit.now) }
+    ensures err { OnErr result (document.new ≡ document.old) }
 {
-    match document.apply(alloc, edit) {
-        Ok(()) => Ok(()),
-        Err(_) => Err(NoMemory),
-    }
+    let copy = edit.copy(alloc)?;
+    document.apply_accepted(alloc, copy)
 }
 
 /// The document that these edits make of the root alone.

@@ -7,6 +7,7 @@ ghost use Rattle.story_check.specs.Stories.{flushes, cap};
 
 mod acceptance;
 mod documents;
+mod last;
 mod progress;
 mod refusals;
 mod story;
@@ -14,10 +15,11 @@ mod story;
 mod tests;
 mod waits;
 
-pub use acceptance::accept;
+pub use acceptance::{accept, accept_last};
 pub use documents::{base_dom, change, last_dom};
+pub use last::LastMoment;
 pub use refusals::{AcceptFail, Cause, Refusal};
-pub use story::{ClientLine, PageLine, Story, close};
+pub use story::{ClientLine, PageLine, Story};
 pub use waits::stuck;
 
 /// More takes let the page publish no less, and never more than all its flushes.

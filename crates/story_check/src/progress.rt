@@ -1,17 +1,19 @@
 //! The lines of a story that are read so far.
-ghost use Rattle.std.specs.Prelude.{◌≡◌, ◌<◌, ◌≤◌, map, length, IfOk, OnOk};
+ghost use Rattle.std.specs.Prelude.{◌≡◌, ◌<◌, ◌≤◌, false, ◌++◌, ◌∷◌, [], if◌then◌else◌, map, length, IfOk, OnOk, None};
 ghost use Rattle.std.specs.List.{list_all};
 ghost use Rattle.std.specs.Option.{option_map};
 ghost use Rattle.ax_dom.specs.Bounds.{EditKeepsBounds};
+ghost use Rattle.ax_dom.specs.Refusals.{edit_cause};
 ghost use Rattle.story_lines.specs.declared.reading.Line.TheVariants.{Change as EditLine, Start as StartLine, Flush as FlushLine, Until as UntilLine, Await as AwaitLine, Turns as TurnsLine};
 ghost use Rattle.story_lines.specs.Bounds.{KeepsBounds};
 ghost use Rattle.story_lines.specs.Lines.{line_of};
 ghost use Rattle.story_check.specs.declared.story.PageLine.TheVariants.{Flush, Until};
-ghost use Rattle.story_check.specs.Stories.{flushes, closed};
-ghost use Rattle.story_check.specs.Acceptance.{at_first, cause_of, edit_fail, turns_of, story_refusal, is_letter, is_turn_list, side, client_cause, line_cause, with_edit, with_page, with_client, with_await, line_effect, unless, after_line, await_refusal, at_end, Comes, Accepts};
+ghost use Rattle.story_check.specs.Stories.{flushes};
+ghost use Rattle.story_check.specs.Acceptance.{Progress, at_first, cause_of, edit_fail, turns_of, story_refusal, is_letter, is_turn_list, side, client_cause, line_cause, with_edit, with_page, with_client, with_await, unless, after_line, await_refusal, Comes, Accepts};
+ghost use Rattle.story_check.specs.Holding.{held, held_edit, held_line, told, GoesOn};
 
 use crate::refusals::{refused, whole};
-use crate::{AcceptFail, Cause, ClientLine, PageLine, Refusal, Story, close, stuck};
+use crate::{AcceptFail, Cause, ClientLine, PageLine, Refusal, Story, stuck};
 use ax_base::{Moment, NoMemory, Text, Who};
 use ax_dom::{Dom, Edit, EditCause};
 use std::alloc::Global;
@@ -27,11 +29,15 @@ const MAX_ASKS: usize = 16_384;
 /// The most characters of a turn list.
 const MAX_TURNS: usize = 1_048_576;
 
-/// The lines that are read so far, and the document after their edits.
+/// The lines that are read so far, with or without their edits, and the document after these.
 #[derive(Drop)]
 pub struct Reading {
     dom: Dom,
     started: bool,
+    /// Whether the edits are kept.
+    keeps: bool,
+    /// Whether an edit of the page stands behind its last flush.
+    pending: bool,
     base: Vec<Edit>,
     page: Vec<PageLine>,
     client: Vec<ClientLine>,
@@ -44,11 +50,11 @@ impl Model for Reading {
     ghost use Rattle.std.specs.Prelude.{◌≡◌, ◌≤◌, length};
     ghost use Rattle.std.specs.Option.{option_map};
     ghost use Rattle.story_check.specs.Stories.{flushes};
-    ghost use Rattle.story_check.specs.Acceptance.{Progress};
+    ghost use Rattle.story_check.specs.Holding.{Held};
 
-    ghost Value = { Progress };
+    ghost Value = { Held };
 
-    ghost view = { λ s. record { document = s.dom; started = s.started; base = s.base.items; page = s.page.items; client = s.client.items; awaits = s.awaits.items; turns = option_map (λ v. v.items) s.turns } };
+    ghost view = { λ s. record { keeps = s.keeps; pending = s.pending; lines = record { document = s.dom; started = s.started; base = s.base.items; page = s.page.items; client = s.client.items; awaits = s.awaits.items; turns = option_map (λ v. v.items) s.turns } } };
 
     ghost invariant = { λ s. (flushes s.page.items ≡ s.count) × (flushes s.page.items ≤ 65536) × (length s.client.items ≤ 16384) };
 }
@@ -138,20 +144,26 @@ fn turns_of(alloc: Global, turns: Option<Vec<Who>>) -> Vec<Who>
     }
 }
 
-/// The story of these parts, whose page gets its closing flush.
-#[tactic(auto, using(crate::proofs::Caps::flushes_closed))]
-fn story_of(
-    base: Vec<Edit>,
-    page: Vec<PageLine>,
-    client: Vec<ClientLine>,
-    turns: Vec<Who>,
-) -> Result<Story, NoMemory>
-    requires flushes { flushes page.items ≤ 65536 }
-    requires asks { length client.items ≤ 16384 }
-    ensures { IfOk result (λ s. s ≡ record { base = base.items; page = closed page.items; client = client.items; turns = turns.items }) }
+/// The lines of a page, with its closing flush where an edit stands behind the last one.
+#[tactic(auto, using(crate::proofs::Caps::flushes_with))]
+fn closed(mut page: Vec<PageLine>, pending: bool) -> Result<Vec<PageLine>, NoMemory>
+    requires { flushes page.items ≤ 65536 }
+    ensures lines { IfOk result (λ p. p.items ≡ (if pending then page.items ++ Flush ∷ [] else page.items)) }
+    ensures few { IfOk result (λ p. flushes p.items ≤ 65537) }
 {
-    let page = close(page)?;
-    Ok(Story::new(base, page, client, turns).unwrap())
+    if pending {
+        page.push(PageLine::Flush)?;
+    }
+    Ok(page)
+}
+
+/// The story of these parts.
+fn story_of(base: Vec<Edit>, page: Vec<PageLine>, client: Vec<ClientLine>, turns: Vec<Who>) -> Story
+    requires flushes { flushes page.items ≤ 65537 }
+    requires asks { length client.items ≤ 16384 }
+    ensures { result ≡ record { base = base.items; page = page.items; client = client.items; turns = turns.items } }
+{
+    Story::new(base, page, client, turns).unwrap()
 }
 
 /// What is refused of a whole story.
@@ -171,13 +183,15 @@ fn story_refusal(story: &Story, awaits: &[(u32, Moment)]) -> Option<Refusal>
 }
 
 impl Reading {
-    /// Before the first line.
-    pub fn new(alloc: Global) -> Result<Reading, NoMemory>
-        ensures { IfOk result (λ reading. reading ≡ at_first) }
+    /// Before the first line. It says whether the edits will be kept.
+    pub fn new(alloc: Global, keeps: bool) -> Result<Reading, NoMemory>
+        ensures { IfOk result (λ reading. reading ≡ held keeps at_first) }
     {
         Ok(Reading {
             dom: Dom::new(alloc)?,
             started: false,
+            keeps,
+            pending: false,
             base: Vec::new(alloc),
             page: Vec::new(alloc),
             client: Vec::new(alloc),
@@ -189,7 +203,7 @@ impl Reading {
 
     /// Reads the line with this number.
     pub fn step(&mut self, alloc: Global, number: u32, line: &str) -> Result<(), AcceptFail>
-        ensures { Comes result self.new (after_line number self.old (line_of line.now)) }
+        ensures { (p : Progress) → self.old ≡ held self.old.keeps p → GoesOn result self.old.keeps self.new (after_line number p (line_of line.now)) }
     {
         match read_line(alloc, line) {
             Ok(Some(said)) => self.take(alloc, number, said),
@@ -203,7 +217,7 @@ impl Reading {
     /// Takes what a line says, or refuses it.
     fn take(&mut self, alloc: Global, number: u32, line: Line) -> Result<(), AcceptFail>
         requires { KeepsBounds line }
-        ensures { Comes result self.new (unless number (line_cause self.old line) (line_effect number self.old line)) }
+        ensures { Comes result self.new (unless number (line_cause self.old.lines line) (held_line number self.old line)) }
     {
         match line {
             Line::Change(edit) => self.change(alloc, number, edit),
@@ -222,32 +236,52 @@ impl Reading {
     /// Takes an edit.
     fn change(&mut self, alloc: Global, number: u32, edit: Edit) -> Result<(), AcceptFail>
         requires { EditKeepsBounds edit }
-        ensures { Comes result self.new (unless number (line_cause self.old (EditLine edit)) (line_effect number self.old (EditLine edit))) }
+        ensures { Comes result self.new (unless number (line_cause self.old.lines (EditLine edit)) (held_line number self.old (EditLine edit))) }
     {
-        match self.dom.apply(alloc, &edit) {
-            Ok(()) => {
-                self.keep(edit)?;
+        match self.dom.cause_of(&edit) {
+            None => {
+                self.accepted(alloc, edit)?;
                 Ok(())
             }
-            Err(cause) => Err(edit_fail(number, cause)),
+            Some(cause) => Err(edit_fail(number, cause)),
         }
+    }
+
+    /// Does an edit that nothing refuses. It becomes the document's, and where the edits are kept, a copy of it does.
+    fn accepted(&mut self, alloc: Global, edit: Edit) -> Result<(), NoMemory>
+        requires free { edit_cause self.old.lines.document edit ≡ None }
+        requires within { EditKeepsBounds edit }
+        ensures { OnOk result (self.new ≡ held_edit edit self.old) }
+    {
+        if self.keeps {
+            let copy = edit.copy(alloc)?;
+            self.dom.apply_accepted(alloc, copy)?;
+            self.keep(edit)?;
+        } else {
+            self.dom.apply_accepted(alloc, edit)?;
+        }
+        if self.started {
+            self.pending = true;
+        }
+        Ok(())
     }
 
     /// Adds a flush to the page.
     #[tactic(auto, using(crate::proofs::Caps::flushes_with))]
     fn add_flush(&mut self) -> Result<(), NoMemory>
-        requires { flushes self.old.page < 65536 }
-        ensures { OnOk result (self.new ≡ with_page Flush self.old) }
+        requires { flushes self.old.lines.page < 65536 }
+        ensures { OnOk result (self.new ≡ record self.old { pending = false; lines = with_page Flush self.old.lines }) }
     {
         self.page.push(PageLine::Flush)?;
         self.count += 1;
+        self.pending = false;
         Ok(())
     }
 
     /// Adds a wait to the page.
     #[tactic(auto, using(crate::proofs::Caps::flushes_with))]
     fn add_until(&mut self, moment: Moment) -> Result<(), NoMemory>
-        ensures { OnOk result (self.new ≡ with_page (Until moment) self.old) }
+        ensures { OnOk result (self.new ≡ record self.old { lines = with_page (Until moment) self.old.lines }) }
     {
         self.page.push(PageLine::Until(moment))?;
         Ok(())
@@ -255,8 +289,8 @@ impl Reading {
 
     /// Adds a line of the client.
     fn add_client(&mut self, line: ClientLine) -> Result<(), NoMemory>
-        requires { length self.old.client < 16384 }
-        ensures { OnOk result (self.new ≡ with_client line self.old) }
+        requires { length self.old.lines.client < 16384 }
+        ensures { OnOk result (self.new ≡ record self.old { lines = with_client line self.old.lines }) }
     {
         self.client.push(line)?;
         Ok(())
@@ -264,7 +298,7 @@ impl Reading {
 
     /// Keeps the number of a line that awaits a moment.
     fn add_await(&mut self, number: u32, moment: Moment) -> Result<(), NoMemory>
-        ensures { OnOk result (self.new ≡ with_await number moment self.old) }
+        ensures { OnOk result (self.new ≡ record self.old { lines = with_await number moment self.old.lines }) }
     {
         self.awaits.push((number, moment))?;
         Ok(())
@@ -273,7 +307,7 @@ impl Reading {
     /// Keeps an edit: before the start as a base edit, after it as a line of the page.
     #[tactic(auto, using(crate::proofs::Caps::flushes_with))]
     fn keep(&mut self, edit: Edit) -> Result<(), NoMemory>
-        ensures { OnOk result (self.new ≡ with_edit edit self.old) }
+        ensures { OnOk result (self.new ≡ record self.old { lines = with_edit edit self.old.lines }) }
     {
         if self.started {
             self.page.push(PageLine::Change(edit))?;
@@ -285,7 +319,7 @@ impl Reading {
 
     /// Takes a start line.
     fn start(&mut self, number: u32) -> Result<(), AcceptFail>
-        ensures { Comes result self.new (unless number (line_cause self.old StartLine) (line_effect number self.old StartLine)) }
+        ensures { Comes result self.new (unless number (line_cause self.old.lines StartLine) (held_line number self.old StartLine)) }
     {
         if self.started {
             return refused(number, Cause::SecondStart);
@@ -296,7 +330,7 @@ impl Reading {
 
     /// Takes a flush line.
     fn flush(&mut self, number: u32) -> Result<(), AcceptFail>
-        ensures { Comes result self.new (unless number (line_cause self.old FlushLine) (line_effect number self.old FlushLine)) }
+        ensures { Comes result self.new (unless number (line_cause self.old.lines FlushLine) (held_line number self.old FlushLine)) }
     {
         if !self.started {
             return refused(number, Cause::NoStart);
@@ -310,7 +344,7 @@ impl Reading {
 
     /// Takes a wait of the page.
     fn until(&mut self, number: u32, moment: Moment) -> Result<(), AcceptFail>
-        ensures { Comes result self.new (unless number (line_cause self.old (UntilLine moment)) (line_effect number self.old (UntilLine moment))) }
+        ensures { Comes result self.new (unless number (line_cause self.old.lines (UntilLine moment)) (held_line number self.old (UntilLine moment))) }
     {
         if !self.started {
             return refused(number, Cause::NoStart);
@@ -321,7 +355,7 @@ impl Reading {
 
     /// Takes a line of the client.
     fn client_line(&mut self, number: u32, line: ClientLine) -> Result<(), AcceptFail>
-        ensures { Comes result self.new (unless number (client_cause self.old) (with_client line self.old)) }
+        ensures { Comes result self.new (unless number (client_cause self.old.lines) (record self.old { lines = with_client line self.old.lines })) }
     {
         if !self.started {
             return refused(number, Cause::NoStart);
@@ -335,7 +369,7 @@ impl Reading {
 
     /// Takes a wait of the client, and keeps its number.
     fn wait(&mut self, number: u32, moment: Moment) -> Result<(), AcceptFail>
-        ensures { Comes result self.new (unless number (line_cause self.old (AwaitLine moment)) (line_effect number self.old (AwaitLine moment))) }
+        ensures { Comes result self.new (unless number (line_cause self.old.lines (AwaitLine moment)) (held_line number self.old (AwaitLine moment))) }
     {
         self.client_line(number, ClientLine::Await(moment))?;
         self.add_await(number, moment)?;
@@ -344,7 +378,7 @@ impl Reading {
 
     /// Takes a turn list.
     fn turn_list(&mut self, alloc: Global, number: u32, text: &Text) -> Result<(), AcceptFail>
-        ensures { Comes result self.new (unless number (line_cause self.old (TurnsLine text.now)) (line_effect number self.old (TurnsLine text.now))) }
+        ensures { Comes result self.new (unless number (line_cause self.old.lines (TurnsLine text.now)) (held_line number self.old (TurnsLine text.now))) }
     {
         if !self.started {
             return refused(number, Cause::NoStart);
@@ -356,14 +390,16 @@ impl Reading {
         Ok(())
     }
 
-    /// The story of all lines, or what is refused at their end.
-    pub fn finish(self, alloc: Global) -> Result<Story, AcceptFail>
-        ensures { Accepts result (at_end self) }
+    /// The story of all lines, with or without its edits, and the document after these, or what is refused at their end.
+    pub fn finish(self, alloc: Global) -> Result<(Story, Dom), AcceptFail>
+        ensures { Accepts result (told self) }
     {
         if !self.started {
             return Err(whole(Cause::NoStart));
         }
         let Reading {
+            dom,
+            pending,
             base,
             page,
             client,
@@ -371,9 +407,10 @@ impl Reading {
             turns,
             ..
         } = self;
-        let story = story_of(base, page, client, turns_of(alloc, turns))?;
+        let page = closed(page, pending)?;
+        let story = story_of(base, page, client, turns_of(alloc, turns));
         match story_refusal(&story, &awaits) {
-            None => Ok(story),
+            None => Ok((story, dom)),
             Some(refusal) => Err(AcceptFail::Refused(refusal)),
         }
     }

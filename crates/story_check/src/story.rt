@@ -1,9 +1,9 @@
 //! The lines of a story.
-ghost use Rattle.std.specs.Prelude.{◌≡◌, ◌≤◌, ◌↔◌, length, IsSome, IfSome, IfOk};
-ghost use Rattle.story_check.specs.Stories.{flushes, closed};
+ghost use Rattle.std.specs.Prelude.{◌≡◌, ◌≤◌, ◌↔◌, length, IsSome, IfSome};
+ghost use Rattle.story_check.specs.Stories.{flushes};
 
 use ax_ask::Request;
-use ax_base::{Moment, NoMemory, Who};
+use ax_base::{Moment, Who};
 use ax_dom::Edit;
 use std::marker::Model;
 
@@ -109,6 +109,13 @@ impl Story {
         self.client.as_slice()
     }
 
+    /// The lines of the client as a `Vec`. It takes no memory.
+    pub fn into_client(self) -> Vec<ClientLine>
+        ensures { result.items ≡ self.client }
+    {
+        self.client
+    }
+
     /// The turns to play first.
     pub fn turns(&self) -> &[Who]
         ensures { result.now ≡ self.now.turns }
@@ -123,22 +130,4 @@ impl Story {
     {
         self.count
     }
-}
-
-/// The lines of the page with their closing flush: one flush more where an edit stands after the last flush.
-pub fn close(mut page: Vec<PageLine>) -> Result<Vec<PageLine>, NoMemory>
-    ensures { IfOk result (λ p. p.items ≡ closed page.items) }
-{
-    let mut open = false;
-    for line in page.iter() {
-        match line {
-            PageLine::Change(_) => open = true,
-            PageLine::Flush => open = false,
-            PageLine::Until(_) => {}
-        }
-    }
-    if open {
-        page.push(PageLine::Flush)?;
-    }
-    Ok(page)
 }

@@ -4,3 +4,4 @@ pub mod AttributeLists
 pub mod RunLists
 pub mod RectBounds
 pub mod MarkerLists
+pub mod OwnKeys

@@ -5,5 +5,6 @@ pub mod Markers
 pub mod Searches
 pub mod Requests
 pub mod Forms
+pub mod Kinds
 pub mod Lines
 pub mod Bounds

@@ -29,7 +29,7 @@ fn attribute(alloc: Global, name: &str, value: &Value) -> Result<Option<Attr>, N
 fn attributes(alloc: Global, members: &Map<String, Value>) -> Result<Option<Attrs>, NoMemory>
     ensures { IfOk result (λ attrs. attrs ≡ attributes (members_view members.now.entries)) }
 {
-    let mut attrs = Vec::new(alloc);
+    let mut attrs = Vec::with_capacity(alloc, members.len())?;
     for (name, value) in members {
         let Some(attr) = attribute(alloc, name.as_str(), value)? else {
             return Ok(None);

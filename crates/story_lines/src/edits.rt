@@ -1,7 +1,8 @@
 //! The forms of the edits.
 ghost use Rattle.std.specs.Prelude.{◌≡◌, IfOk};
 ghost use Rattle.serde_json.specs.View.{view};
-ghost use Rattle.story_lines.specs.Forms.{insert_element_of, insert_text_of, remove_of, move_of, set_of, unset_of, text_of, runs_of, frame_of, focus_of, edit_of};
+ghost use Rattle.story_lines.specs.Forms.{insert_element_of, insert_text_of, remove_of, move_of, set_of, unset_of, text_of, runs_of, frame_of, focus_of};
+ghost use Rattle.story_lines.specs.Values.{◌or_else◌};
 
 use crate::attributes::maybe_attributes;
 use crate::keys::has_only;
@@ -76,7 +77,7 @@ fn insert_text_of(alloc: Global, value: &Value) -> Result<Option<Edit>, NoMemory
 
 /// Remove.
 #[tactic(auto, unfolding(crate::specs::Forms::remove_of))]
-fn remove_of(value: &Value) -> Option<Edit>
+pub(crate) fn remove_of(value: &Value) -> Option<Edit>
     ensures { result ≡ remove_of (view value.now) }
 {
     if !has_only(value, &["remove"]) {
@@ -87,7 +88,7 @@ fn remove_of(value: &Value) -> Option<Edit>
 
 /// Move.
 #[tactic(auto, unfolding(crate::specs::Forms::move_of))]
-fn move_of(value: &Value) -> Option<Edit>
+pub(crate) fn move_of(value: &Value) -> Option<Edit>
     ensures { result ≡ move_of (view value.now) }
 {
     if !has_only(value, &["move", "into", "before"]) {
@@ -101,7 +102,7 @@ fn move_of(value: &Value) -> Option<Edit>
 
 /// Set an attribute.
 #[tactic(auto, unfolding(crate::specs::Forms::set_of))]
-fn set_of(alloc: Global, value: &Value) -> Result<Option<Edit>, NoMemory>
+pub(crate) fn set_of(alloc: Global, value: &Value) -> Result<Option<Edit>, NoMemory>
     ensures { IfOk result (λ edit. edit ≡ set_of (view value.now)) }
 {
     if !has_only(value, &["set", "name", "value"]) {
@@ -123,7 +124,7 @@ fn set_of(alloc: Global, value: &Value) -> Result<Option<Edit>, NoMemory>
 
 /// Take an attribute away.
 #[tactic(auto, unfolding(crate::specs::Forms::unset_of))]
-fn unset_of(alloc: Global, value: &Value) -> Result<Option<Edit>, NoMemory>
+pub(crate) fn unset_of(alloc: Global, value: &Value) -> Result<Option<Edit>, NoMemory>
     ensures { IfOk result (λ edit. edit ≡ unset_of (view value.now)) }
 {
     if !has_only(value, &["unset", "name"]) {
@@ -141,7 +142,7 @@ fn unset_of(alloc: Global, value: &Value) -> Result<Option<Edit>, NoMemory>
 
 /// Change a text.
 #[tactic(auto, unfolding(crate::specs::Forms::text_of))]
-fn text_of(alloc: Global, value: &Value) -> Result<Option<Edit>, NoMemory>
+pub(crate) fn text_of(alloc: Global, value: &Value) -> Result<Option<Edit>, NoMemory>
     ensures { IfOk result (λ edit. edit ≡ text_of (view value.now)) }
 {
     if !has_only(value, &["text", "to"]) {
@@ -159,7 +160,7 @@ fn text_of(alloc: Global, value: &Value) -> Result<Option<Edit>, NoMemory>
 
 /// Set runs.
 #[tactic(auto, unfolding(crate::specs::Forms::runs_of))]
-fn runs_of(alloc: Global, value: &Value) -> Result<Option<Edit>, NoMemory>
+pub(crate) fn runs_of(alloc: Global, value: &Value) -> Result<Option<Edit>, NoMemory>
     ensures { IfOk result (λ edit. edit ≡ runs_of (view value.now)) }
 {
     if !has_only(value, &["runs", "list"]) {
@@ -176,7 +177,7 @@ fn runs_of(alloc: Global, value: &Value) -> Result<Option<Edit>, NoMemory>
 
 /// Set a frame.
 #[tactic(auto, unfolding(crate::specs::Forms::frame_of))]
-fn frame_of(value: &Value) -> Option<Edit>
+pub(crate) fn frame_of(value: &Value) -> Option<Edit>
     ensures { result ≡ frame_of (view value.now) }
 {
     if !has_only(value, &["frame", "rect"]) {
@@ -189,7 +190,7 @@ fn frame_of(value: &Value) -> Option<Edit>
 
 /// Focus.
 #[tactic(auto, unfolding(crate::specs::Forms::focus_of))]
-fn focus_of(value: &Value) -> Option<Edit>
+pub(crate) fn focus_of(value: &Value) -> Option<Edit>
     ensures { result ≡ focus_of (view value.now) }
 {
     if !has_only(value, &["focus"]) {
@@ -198,37 +199,12 @@ fn focus_of(value: &Value) -> Option<Edit>
     Some(Edit::Focus(id_or_none_at(value, "focus")?))
 }
 
-/// The edit that a value is.
-#[tactic(auto, unfolding(crate::specs::Forms::edit_of))]
-pub(crate) fn edit_of(alloc: Global, value: &Value) -> Result<Option<Edit>, NoMemory>
-    ensures { IfOk result (λ edit. edit ≡ edit_of (view value.now)) }
+/// Insert an element or a text.
+pub(crate) fn insert_of(alloc: Global, value: &Value) -> Result<Option<Edit>, NoMemory>
+    ensures { IfOk result (λ edit. edit ≡ (insert_element_of (view value.now) or_else insert_text_of (view value.now))) }
 {
     if let Some(edit) = insert_element_of(alloc, value)? {
         return Ok(Some(edit));
     }
-    if let Some(edit) = insert_text_of(alloc, value)? {
-        return Ok(Some(edit));
-    }
-    if let Some(edit) = remove_of(value) {
-        return Ok(Some(edit));
-    }
-    if let Some(edit) = move_of(value) {
-        return Ok(Some(edit));
-    }
-    if let Some(edit) = set_of(alloc, value)? {
-        return Ok(Some(edit));
-    }
-    if let Some(edit) = unset_of(alloc, value)? {
-        return Ok(Some(edit));
-    }
-    if let Some(edit) = text_of(alloc, value)? {
-        return Ok(Some(edit));
-    }
-    if let Some(edit) = runs_of(alloc, value)? {
-        return Ok(Some(edit));
-    }
-    if let Some(edit) = frame_of(value) {
-        return Ok(Some(edit));
-    }
-    Ok(focus_of(value))
+    insert_text_of(alloc, value)
 }

@@ -1,15 +1,21 @@
 //! The forms of a line.
-ghost use Rattle.std.specs.Prelude.{◌≡◌, IfOk};
+ghost use Rattle.std.specs.Prelude.{◌≡◌, IfOk, option_map};
 ghost use Rattle.serde_json.specs.View.{view};
 ghost use Rattle.story_lines.specs.Forms.{start_of, flush_of, until_of, ask_of, again_of, hear_of, await_of, notices_of, turns_of, form_of};
+ghost use Rattle.story_lines.specs.declared.reading.Line.TheVariants.{Change};
+ghost use Rattle.story_lines.specs.Kinds.{form_by};
 ghost use Rattle.story_lines.specs.Values.{is_word, moment_by};
 
-use crate::edits::edit_of;
+use crate::edits::{
+    focus_of, frame_of, insert_of, move_of, remove_of, runs_of, set_of, text_of, unset_of,
+};
 use crate::keys::has_only;
+use crate::kinds::{Kind, kind_of};
 use crate::reading::Line;
 use crate::requests::request_by;
 use crate::values::{has_true, text_at, whole_at};
 use ax_base::{Moment, NoMemory, Text};
+use ax_dom::Edit;
 use serde_json::Value;
 use std::alloc::Global;
 
@@ -133,37 +139,49 @@ fn turns_of(alloc: Global, value: &Value) -> Result<Option<Line>, NoMemory>
     Ok(Some(Line::Turns(Text::from_str(alloc, turns)?)))
 }
 
-/// What a value says as a line.
-#[tactic(auto, unfolding(crate::specs::Forms::form_of))]
+/// The line that an edit is.
+fn changed(edit: Option<Edit>) -> Option<Line>
+    ensures { result ≡ option_map Change edit }
+{
+    match edit {
+        Some(edit) => Some(Line::Change(edit)),
+        None => None,
+    }
+}
+
+/// What a value of a kind says as a line.
+fn form_by(alloc: Global, kind: Kind, value: &Value) -> Result<Option<Line>, NoMemory>
+    ensures { IfOk result (λ line. line ≡ form_by kind (view value.now)) }
+{
+    match kind {
+        Kind::Insert => Ok(changed(insert_of(alloc, value)?)),
+        Kind::Remove => Ok(changed(remove_of(value))),
+        Kind::Move => Ok(changed(move_of(value))),
+        Kind::Set => Ok(changed(set_of(alloc, value)?)),
+        Kind::Unset => Ok(changed(unset_of(alloc, value)?)),
+        Kind::Chars => Ok(changed(text_of(alloc, value)?)),
+        Kind::SetRuns => Ok(changed(runs_of(alloc, value)?)),
+        Kind::Frame => Ok(changed(frame_of(value))),
+        Kind::Focus => Ok(changed(focus_of(value))),
+        Kind::Start => Ok(start_of(value)),
+        Kind::Flush => Ok(flush_of(value)),
+        Kind::Until => Ok(until_of(value)),
+        Kind::Ask => ask_of(alloc, value),
+        Kind::Again => again_of(alloc, value),
+        Kind::Hear => Ok(hear_of(value)),
+        Kind::Await => Ok(await_of(value)),
+        Kind::Notices => Ok(notices_of(value)),
+        Kind::Turns => turns_of(alloc, value),
+    }
+}
+
+/// What a value says as a line. Its own key tells its kind, so that one form is tried and no other.
+#[tactic(auto, using(crate::proofs::OwnKeys::form_is))]
 pub(crate) fn form_of(alloc: Global, value: &Value) -> Result<Option<Line>, NoMemory>
     ensures { IfOk result (λ line. line ≡ form_of (view value.now)) }
 {
-    if let Some(edit) = edit_of(alloc, value)? {
-        return Ok(Some(Line::Change(edit)));
+    match kind_of(value) {
+        Some(kind) => form_by(alloc, kind, value),
+        None => Ok(None),
     }
-    if let Some(line) = start_of(value) {
-        return Ok(Some(line));
-    }
-    if let Some(line) = flush_of(value) {
-        return Ok(Some(line));
-    }
-    if let Some(line) = until_of(value) {
-        return Ok(Some(line));
-    }
-    if let Some(line) = ask_of(alloc, value)? {
-        return Ok(Some(line));
-    }
-    if let Some(line) = again_of(alloc, value)? {
-        return Ok(Some(line));
-    }
-    if let Some(line) = hear_of(value) {
-        return Ok(Some(line));
-    }
-    if let Some(line) = await_of(value) {
-        return Ok(Some(line));
-    }
-    if let Some(line) = notices_of(value) {
-        return Ok(Some(line));
-    }
-    turns_of(alloc, value)
 }

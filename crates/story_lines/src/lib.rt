@@ -5,10 +5,9 @@ mod attributes;
 mod edits;
 mod forms;
 mod keys;
+mod kinds;
 mod markers;
 mod reading;
-#[cfg(test)]
-mod request_tests;
 mod requests;
 mod runs;
 mod searches;

@@ -15,11 +15,12 @@ use ax_base::{Body, Ids, NoMemory, ObjId, Runs};
 use std::alloc::Global;
 
 impl Dom {
-    /// Does an edit that nothing refuses. At an error nothing changes.
-    pub(super) fn carry_out(&mut self, alloc: Global, e: &Edit) -> Result<(), NoMemory>
-        requires free { edit_cause self.old e.now ≡ None }
-        requires within { EditKeepsBounds e.now }
-        ensures ok { OnOk result (self.new ≡ edited self.old e.now) }
+    /// Does an edit that nothing refuses, so that only memory can be wanting: then the document is unchanged. The texts
+    /// and attributes of the edit become the document's. Its rectangles are within bounds.
+    pub fn apply_accepted(&mut self, alloc: Global, e: Edit) -> Result<(), NoMemory>
+        requires free { edit_cause self.old e ≡ None }
+        requires within { EditKeepsBounds e }
+        ensures ok { OnOk result (self.new ≡ edited self.old e) }
         ensures err { OnErr result (self.new ≡ self.old) }
     {
         match e {
@@ -31,11 +32,11 @@ impl Dom {
                 attrs,
             } => {
                 let body = Body::Element {
-                    tag: tag.copy(alloc)?,
-                    attrs: attrs.copy(alloc)?,
+                    tag,
+                    attrs,
                     frame: NO_FRAME,
                 };
-                self.insert(alloc, *id, *into, before, body)
+                self.insert(alloc, id, into, &before, body)
             }
             Edit::InsertText {
                 id,
@@ -44,20 +45,20 @@ impl Dom {
                 chars,
             } => {
                 let body = Body::Words {
-                    chars: chars.copy(alloc)?,
+                    chars,
                     runs: Runs::new(alloc),
                 };
-                self.insert(alloc, *id, *into, before, body)
+                self.insert(alloc, id, into, &before, body)
             }
-            Edit::Remove(id) => self.remove(alloc, *id),
-            Edit::Move { id, into, before } => self.move_node(alloc, *id, *into, before),
+            Edit::Remove(id) => self.remove(alloc, id),
+            Edit::Move { id, into, before } => self.move_node(alloc, id, into, &before),
             Edit::Chars { id, .. }
             | Edit::Set { id, .. }
             | Edit::Unset { id, .. }
             | Edit::SetRuns { id, .. }
-            | Edit::Frame { id, .. } => self.amend(alloc, *id, e),
+            | Edit::Frame { id, .. } => self.amend(alloc, id, e),
             Edit::Focus(id) => {
-                self.set_focus(id);
+                self.set_focus(&id);
                 Ok(())
             }
         }
@@ -94,12 +95,12 @@ impl Dom {
     }
 
     /// Does an edit that changes a node alone, and that nothing refuses. At an error nothing changes.
-    fn amend(&mut self, alloc: Global, id: ObjId, e: &Edit) -> Result<(), NoMemory>
+    fn amend(&mut self, alloc: Global, id: ObjId, e: Edit) -> Result<(), NoMemory>
         requires known { IsTrue (has self.old id) }
-        requires short { is_too_long e.now ≡ false }
-        requires runs { has_wrong_runs e.now (body self.old id) ≡ false }
-        requires within { EditKeepsBounds e.now }
-        ensures ok { OnOk result (self.new ≡ with_body self.old id (body_after e.now (body self.old id))) }
+        requires short { is_too_long e ≡ false }
+        requires runs { has_wrong_runs e (body self.old id) ≡ false }
+        requires within { EditKeepsBounds e }
+        ensures ok { OnOk result (self.new ≡ with_body self.old id (body_after e (body self.old id))) }
         ensures err { OnErr result (self.new ≡ self.old) }
     {
         self.slots.amend(alloc, id, e)?;

@@ -11,8 +11,8 @@ use crate::edit::Edit;
 use ax_base::{Attrs, Body, ObjId, Run, Text};
 
 impl Dom {
-    /// Why an edit is refused, if it is.
-    pub(super) fn edit_cause(&self, e: &Edit) -> Option<EditCause>
+    /// Why an edit is refused: the first cause that holds, or `None` exactly where none does. It is never want of memory.
+    pub fn cause_of(&self, e: &Edit) -> Option<EditCause>
         ensures { result ≡ edit_cause self.now e.now }
     {
         if self.lacks_node(e) {
@@ -285,7 +285,17 @@ fn is_long_value(value: &Text) -> bool
 fn is_long_text(chars: &Text) -> bool
     ensures { result ≡ is_long_text chars.now }
 {
-    chars.count() > 65536
+    is_long(chars.as_str())
+}
+
+/// Whether these are more than 65,536 characters. They are counted only where there are more bytes than that.
+fn is_long(text: &str) -> bool
+    ensures { result ≡ is_long_text text.now }
+{
+    if text.len() <= 65536 {
+        return false;
+    }
+    text.chars().count() > 65536
 }
 
 /// How many characters a text has.

@@ -1,4 +1,4 @@
-use Rattle.std.proofs.Common.{◌<◌, ◌⊎◌, inl, inr, ◌++◌, length, ◌+◌, sym, subst}
+use Rattle.std.proofs.Common.{◌<◌, ◌⊎◌, inl, inr, ◌++◌, length, ◌+◌, refl, sym, subst}
 use Rattle.story_check.proofs.Caps.{goes}
 use Rattle.ax_world.specs.Machine.{start, after_turns, alternate, lines_done, played}
 use Rattle.ax_world.proofs.Playing.{stands_always, moves, after-append, played_over, legal_over, same_rounds}
@@ -15,7 +15,7 @@ pub returns-clause-ends : goal.returns-clause-ends
 returns-clause-ends c s free = played_over s (goes s free)
 
 pub returns-clause-legal : goal.returns-clause-legal
-returns-clause-legal c s free = legal_over s (played s) (stands_always s (s.turns ++ alternate (length s.page + length s.client))) (played_over s (goes s free))
+returns-clause-legal c s free = (refl, legal_over s (played s) (stands_always s (s.turns ++ alternate (length s.page + length s.client))) (played_over s (goes s free)))
 
 pub returns-clause-same : goal.returns-clause-same
 returns-clause-same c s n free over = same_rounds s s.turns n (length s.page + length s.client) over (played_over s (goes s free))

@@ -25,3 +25,6 @@ returns g c =
     let all = all_records d c.put_root.ensures.tree c.put_root.new.records (c.in_ok-put_root.ensures.records ∙ ap (λ es. with_records d es (put_order d root)) c.new-records.ensures) in
     let same : record { entries = c.put_root.new.records; focus = c.focused_object-focus.result } ≡ tree d = λ i. record { entries = all i; focus = c.focused_object-focus.ensures i } in
     c.new-tree.ensures ∙ same
+
+pub put_root-requires : goal.put_root-requires
+put_root-requires g c = record { names = c.new-names.ensures c.args.dom.now }

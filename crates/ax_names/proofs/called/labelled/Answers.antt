@@ -1,14 +1,14 @@
-use Rattle.std.proofs.Common.{◌≡◌, true, rules, sym}
+use Rattle.std.proofs.Common.{◌≡◌, ◌∙◌, true, rules, sym}
 use Rattle.std.specs.Prelude.{◌==◌}
 use Rattle.ax_names.proofs.Known.{label_known}
 use Rattle.ax_names.proofs.Calling.{labelled_is}
 use Rattle.ax_names.proofs.called.labelled.Goals as goal
 
 pub push_node-requires-clause-known : goal.push_node-requires-clause-known
-push_node-requires-clause-known g c = label_known c.args.dom.now c.args.text.now c.in-Some-label.label (sym (c.in-Some-label.ensures c.args.dom.now c.requires.names.targets))
+push_node-requires-clause-known g c = label_known c.args.dom.now c.args.text.now c.in-Some-labels.label (sym (sym c.in-Some-labels.is ∙ c.in_ok-labels.ensures.value))
 
 pub returns-clause-value : goal.returns-clause-value
 returns-clause-value g c =
     let same : (c.in-Some.first == c.args.id) ≡ true = search rules in
-    labelled_is c.pieces_tell.ensures.together c.args.dom.now c.args.text.now c.args.id c.in-Some.first c.in-Some-label.label c.empty-said.result c.push_node.new.into (c.in-Some.ensures c.args.dom.now c.requires.names.targets) same
-    (c.in-Some-label.ensures c.args.dom.now c.requires.names.targets) c.empty-said.ensures c.in_ok-push_node.ensures.value
+    labelled_is c.pieces_tell.ensures.together c.args.dom.now c.args.text.now c.args.id c.in-Some.first c.in-Some-labels.label c.empty-said.result c.push_node.new.into (sym c.in-Some.is ∙ c.in_ok-found.ensures.value) same
+    (sym c.in-Some-labels.is ∙ c.in_ok-labels.ensures.value) c.empty-said.ensures c.in_ok-push_node.ensures.value

@@ -1,12 +1,14 @@
 use Rattle.std.proofs.Common.{◌≡◌, ◌≤◌, ◌+◌, ◌^◌, length}
 use Rattle.std.specs.Str.{IsUtf8}
-use Rattle.story_check.specs.Acceptance.{after_lines, pieces}
+use Rattle.story_check.specs.Acceptance.{Progress, after_lines, pieces}
+use Rattle.story_check.specs.Holding.{held}
+use Rattle.story_check.proofs.Steps.{Leads}
 use Rattle.story_check.proofs.acceptance.read_lines.Given as goal
 
 -- the lines that are left come to what all come to
 abbrev pub invariant-lines : goal.invariant-lines
 invariant-lines l = record {
-  same : after_lines l.number l.reading (pieces l.rest) ≡ after_lines 1 l.fn.reading (pieces l.text);
+  same : (p : Progress) → l.fn.reading ≡ held l.fn.reading.keeps p → Leads l.fn.reading.keeps l.reading l.number l.rest (after_lines 1 p (pieces l.text));
   utf8 : IsUtf8 l.rest;
   few : l.number + length l.rest ≤ 2 ^ 24 + 1;
 }

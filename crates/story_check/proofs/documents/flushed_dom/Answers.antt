@@ -14,7 +14,7 @@ loop-line-preserved c =
     elim c.match-line.branch [
       | in-Change+in_ok-change-in-Change w ↦
           subst (λ k. IsLeft last c.match-line.document left k) (sym w.left-is)
-          (past_change last d c.match-line.document w.in-Change.edit left c.loop-line.left (omega arith) (w.document-is ∙ w.in_ok-change-in-Change.ensures)
+          (past_change last d c.match-line.document w.in-Change.edit left c.loop-line.left (omega arith) (w.document-is ∙ w.in_ok-change-in-Change.ensures.ok)
           (subst (λ xs. IsLeft last d xs c.loop-line.left) (here ∙ ap (λ x. x ∷ left) w.in-Change.is) c.loop-line.invariant))
       | in-Flush w ↦
           subst (λ (x : Document). IsLeft last x left c.match-line.left) (sym w.document-is)

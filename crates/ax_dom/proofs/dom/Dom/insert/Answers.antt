@@ -22,3 +22,6 @@ returns-in-Ok-clause-ok c = document_inserted _ _ _ c.self.invariant _ c.self.vi
 
 pub returns-in-Err-clause-err : goal.returns-in-Err-clause-err
 returns-in-Err-clause-err c = same_document _ _ c.self.inside.focus _ _ _ c.self.view_is c.in-Err.ensures.err (c.remove.ensures ∙ ap (remove_key (is_at (nat_cmp c.args.id))) c.in_ok-add.ensures.ok ∙ marks_back _ _ _ _ c.self.view_is _ c.requires.fresh)
+
+pub add-requires : goal.add-requires
+add-requires c = rw (← c.self.view_is) at c.requires.fresh

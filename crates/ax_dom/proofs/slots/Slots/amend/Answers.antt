@@ -10,5 +10,5 @@ pub returns-in_err-amend_body-clause-err : goal.returns-in_err-amend_body-clause
 returns-in_err-amend_body-clause-err c =
     let p = err_from_is_err_and c.from_residual.result c.from_residual.ensures.1 in
     let h = c.get_mut.follows.holds (record c.in-Some.slot.now { cell = record c.in-Some.slot.now.cell { body = c.amend_body.new.body } }) in
-    rw p.1 (h.0 ∙ ap (λ b. set_value (is_at (nat_cmp c.id.inside.0)) c.self.inside.map.entries (record c.in-Some.slot.now { cell = record c.in-Some.slot.now.cell { body = b } })) c.in_err-amend_body.ensures.err
-    ∙ set_value_same (is_at (nat_cmp c.id.inside.0)) c.self.inside.map.entries c.in-Some.slot.now (sym c.in-Some.ensures.value) ∙ c.self.view_is)
+    rw p.1 (h ∙ ap (λ b. set_value (is_at (nat_cmp c.args.id)) c.self.inside.map (record c.in-Some.slot.now { cell = record c.in-Some.slot.now.cell { body = b } })) c.in_err-amend_body.ensures.err
+    ∙ set_value_same (is_at (nat_cmp c.args.id)) c.self.inside.map c.in-Some.slot.now (sym c.in-Some.ensures.value) ∙ c.self.view_is)

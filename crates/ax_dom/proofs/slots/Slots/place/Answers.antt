@@ -10,5 +10,5 @@ pub returns-in_err-place_among-clause-err : goal.returns-in_err-place_among-clau
 returns-in_err-place_among-clause-err c =
     let p = err_from_is_err_and c.from_residual.result c.from_residual.ensures.1 in
     let h = c.get_mut.follows.holds (record { cell = c.in-Some.slot.now.cell; children = c.place_among.new.ids }) in
-    rw p.1 (h.0 ∙ ap (λ cs. set_value (is_at (nat_cmp c.into.inside.0)) c.self.inside.map.entries (record { cell = c.in-Some.slot.now.cell; children = cs })) c.in_err-place_among.ensures.err
-    ∙ set_value_same (is_at (nat_cmp c.into.inside.0)) c.self.inside.map.entries c.in-Some.slot.now (sym c.in-Some.ensures.value) ∙ c.self.view_is)
+    rw p.1 (h ∙ ap (λ cs. set_value (is_at (nat_cmp c.args.into)) c.self.inside.map (record { cell = c.in-Some.slot.now.cell; children = cs })) c.in_err-place_among.ensures.err
+    ∙ set_value_same (is_at (nat_cmp c.args.into)) c.self.inside.map c.in-Some.slot.now (sym c.in-Some.ensures.value) ∙ c.self.view_is)

@@ -1,28 +1,10 @@
-use Rattle.std.proofs.Common.{◌∙◌, sym, arith}
-use Rattle.std.proofs.lemmas.Iterator.{YieldsList-from_chars}
-use Rattle.std.proofs.lemmas.Iterator.Consumers.{YieldsList-end, YieldsList-turn}
-use Rattle.ax_names.proofs.Openings.{stays_nil}
-use Rattle.ax_names.proofs.Putting.{flat_start, flat_white, flat_ink, flat_full, flat_end}
+use Rattle.std.proofs.Common.{◌∙◌, ap, sym}
+use Rattle.std.proofs.lemmas.Result.{on_ok_weaker}
+use Rattle.ax_names.specs.Pieces.{followed}
+use Rattle.ax_names.proofs.Evenly.{even_is}
 use Rattle.ax_names.proofs.front.Front.put_flat.Goals as goal
 
-pub loop-c-init : goal.loop-c-init
-loop-c-init c = flat_start c.args.self.now c.args.white c.args.text.now c.utf8.text (stays_nil _ _ _ c.self.view_is (omega arith))
-
-pub returns-then-has_more : goal.returns-then-has_more
-returns-then-has_more c =
-    flat_full c.args.self.now c.args.white c.args.text.now c.loop-c.self c.loop-c.apart c.loop-c.yielded c.loop-c.invariant (sym c.has_more.ensures ∙ c.if-has_more.true)
-
-pub loop-c-preserved-then-is_ascii_whitespace : goal.loop-c-preserved-then-is_ascii_whitespace
-loop-c-preserved-then-is_ascii_whitespace c =
-    let turn = YieldsList-turn (YieldsList-from_chars c.args.text.now c.utf8.text cc) c.loop-c.yielded _ c.loop-c.yielded_by _ _ c.in-Some.c c.in-Some.is c.next.ensures.steps in
-    flat_white c.args.self.now c.args.white c.args.text.now c.loop-c.self c.loop-c.apart c.loop-c.yielded c.loop-c.invariant c.in-Some.c turn (sym c.is_ascii_whitespace.ensures.value ∙ c.if-is_ascii_whitespace.true)
-
-pub loop-c-preserved : goal.loop-c-preserved
-loop-c-preserved c =
-    let turn = YieldsList-turn (YieldsList-from_chars c.args.text.now c.utf8.text cc) c.loop-c.yielded _ c.loop-c.yielded_by _ _ c.in-Some.c c.in-Some.is c.next.ensures.steps in
-    flat_ink c.args.self.now c.args.white c.args.text.now c.loop-c.self c.loop-c.apart c.loop-c.yielded c.loop-c.invariant c.in-Some.c _ turn (sym c.is_ascii_whitespace.ensures.value ∙ c.if-is_ascii_whitespace.false) c.in_ok-put_ink.ensures
-
-pub returns : goal.returns
-returns c =
-    let whole = YieldsList-end (YieldsList-from_chars c.args.text.now c.utf8.text cc) c.loop-c.yielded _ c.loop-c.yielded_by _ _ c.in-None.is c.next.ensures.steps in
-    flat_end c.args.self.now c.args.white c.args.text.now c.loop-c.self c.loop-c.apart c.loop-c.yielded c.loop-c.invariant whole.1
+pub returns-then-is_evenly_spaced : goal.returns-then-is_evenly_spaced
+returns-then-is_evenly_spaced c =
+    let old = c.args.self.now in
+    on_ok_weaker c.put_even.result (λ e. e ∙ ap (followed old) (even_is old.words c.args.white c.args.text.now (sym c.is_evenly_spaced.ensures ∙ c.if-is_evenly_spaced.true))) c.put_even.ensures

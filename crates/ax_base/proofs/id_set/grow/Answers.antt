@@ -1,0 +1,4 @@
+use Rattle.ax_base.proofs.id_set.grow.Goals as goal
+
+pub returns-in_err-push-clause-same : goal.returns-in_err-push-clause-same
+returns-in_err-push-clause-same c q = rw c.in_err-push.ensures.items (c.grow.invariant q)

@@ -1,7 +1,0 @@
-use Rattle.std.proofs.Common.{◌≡◌, ◌++◌, ◌∷◌, string_bytes}
-use Rattle.std.specs.List.{flat_map}
-use Rattle.ax_base.specs.Quoting.{quoted_char}
-use Rattle.ax_base.proofs.quote.push_all.Given as goal
-
-abbrev pub invariant-loop-c : goal.invariant-loop-c
-invariant-loop-c l = string_bytes l.out ≡ string_bytes l.fn.out ++ (34 ∷ flat_map quoted_char l.yielded)

@@ -1,5 +1,0 @@
-use Rattle.ax_dom.proofs.tests.edits_are_done.Given as goal
-
--- the ledger of the test is the blank one
-abbrev pub ghosts-read : goal.ghosts-read
-ghosts-read g a = record { name = a.blank.name; parts = a.blank.parts }

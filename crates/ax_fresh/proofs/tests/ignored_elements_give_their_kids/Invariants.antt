@@ -1,5 +1,0 @@
-use Rattle.ax_fresh.proofs.tests.ignored_elements_give_their_kids.Given as goal
-
--- the ledger of the test is the blank one
-abbrev pub ghosts-look : goal.ghosts-look
-ghosts-look g a = record { name = a.blank.name; parts = a.blank.parts }

@@ -1,0 +1,4 @@
+use Rattle.ax_fresh.proofs.uncounted.tree_of.Given as goal
+
+abbrev pub ghosts-counted_tree : goal.ghosts-counted_tree
+ghosts-counted_tree a = record { name = a.blank.name; parts = a.blank.parts }

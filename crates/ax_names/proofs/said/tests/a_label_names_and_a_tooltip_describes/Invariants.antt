@@ -1,5 +1,0 @@
-use Rattle.ax_names.proofs.said.tests.a_label_names_and_a_tooltip_describes.Given as goal
-
--- the ledger of the test is the blank one
-abbrev pub ghosts-ask : goal.ghosts-ask
-ghosts-ask g a = record { name = a.blank.name; parts = a.blank.parts }
