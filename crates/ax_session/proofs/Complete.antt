@@ -57,8 +57,8 @@ complete_from words mine left new reads reads' writes writes' taken input status
     answers command other status text (subst (λ c. MayAnswer c other status text) same (subst (λ i. MayAnswer mine i status text) (e ∙ read) h))
 
 -- what `dump` writes of an accepted story, by its last moment
-pub dumps : (input : List ℕ) (last : LastMoment) (text : List ℕ) → (story : Script) × (Accepted input story × IsLastOf story last) → text ≡ document_text last.document last.flushes → Does Dump input text
-dumps input last text (story, (a, is)) t = (story, a, t ∙ last_text story last.document last.flushes is.document_is is.flushes_are)
+pub dumps : (input : List ℕ) (last : LastMoment) (text : List ℕ) → (story : Script) × Accepted input story × IsLastOf story last → text ≡ document_text last.document last.flushes → Does Dump input text
+dumps input last text (story, a, is) t = (story, a, t ∙ last_text story last.document last.flushes is.document_is is.flushes_are)
 
 -- what `replay` writes of an accepted story
 pub replays : (input : List ℕ) (story : Script) (text : List ℕ) → Accepted input story → IsLegalTranscript story (transcript_of story) → text ≡ replay_text story → Does Replay input text
@@ -74,3 +74,7 @@ left_alone None spawner = refl
 left_alone (Some Dump) spawner = refl
 left_alone (Some Replay) spawner = refl
 left_alone (Some Run) spawner = tt
+
+-- what the command of some words does to the spawner
+pub leaves : {S : Type 0} (words : Option Command) (command : Command) (old new : S) → words ≡ Some command → LeavesSpawner (Some command) old new → LeavesSpawner words old new
+leaves words command old new is h = subst (λ w. LeavesSpawner w old new) (sym is) h
