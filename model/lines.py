@@ -1,7 +1,7 @@
 #!/usr/bin/env python3
 """Single lines, run against a program: those that have no JSON reading, those that are no line of a story, and those that are one.
 
-    cases/lines.py PROGRAM [WORD ..]
+    model/lines.py PROGRAM [WORD ..]
 
 PROGRAM and the words before the command run axcore. A line that is read shows what it says by what is written of a story that has
 it. Limits of numbers and lengths are in limits.py. It ends with status 1 if one is answered otherwise.

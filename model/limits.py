@@ -1,7 +1,7 @@
 #!/usr/bin/env python3
 """Each refusal at its limit and one past it, and each number at both ends of its range, run against a program.
 
-    cases/limits.py PROGRAM [WORD ..]
+    model/limits.py PROGRAM [WORD ..]
 
 PROGRAM and the words before the command run axcore. The stories are too long to be kept as files, so they are made here. It
 ends with status 1 if one is answered otherwise.

@@ -1,7 +1,7 @@
 #!/usr/bin/env python3
 """Compares `gen N` with the second model of stories, and tries words that are no such command.
 
-    cases/generated.py PROGRAM
+    model/generated.py PROGRAM
 
 PROGRAM is an axcore program. For some N the three lines must be those of the story that docs/STORY_FORMAT.md, section 12,
 gives for N, as the second model plays it, and the program must write that play of it by `replay`. For a great N, whose trees

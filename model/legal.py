@@ -1,7 +1,7 @@
 #!/usr/bin/env python3
 """Judges a transcript of `run`: whether it is one that the story allows.
 
-    cases/legal.py STORY TRANSCRIPT
+    model/legal.py STORY TRANSCRIPT
 
 Both are files. It ends with status 1 and names the first line that is not legal. Written from docs/STORY_FORMAT.md alone,
 section 11, over the second model of stories beside this file.

@@ -1,7 +1,7 @@
 #!/usr/bin/env python3
 """Runs random stories on two threads, each many times, and judges what is written (legal.py).
 
-    cases/schedules.py PROGRAM [SEED [SECONDS]]
+    model/schedules.py PROGRAM [SEED [SECONDS]]
 
 PROGRAM is an axcore program. The stories are random, accepted, and short and long; every eighth has some thousand moments.
 Each is run 20 times: on all processors, on one alone, and while other processes keep the processors busy. Each transcript

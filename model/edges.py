@@ -1,7 +1,7 @@
 #!/usr/bin/env python3
 """What a program does at its edges: words that are no command, input that cannot be read, output that has no room.
 
-    cases/edges.py PROGRAM
+    model/edges.py PROGRAM
 
 PROGRAM is an axcore program. Each run has a status to end with and a text that must be out by then. Where the words are no
 command, nothing may be read either. Nothing is ever written to standard error. It ends with status 1 if a run ends otherwise.

@@ -1,7 +1,7 @@
 #!/usr/bin/env python3
 """Compares a program with a second, plain model of stories on random small ones.
 
-    cases/random_stories.py PROGRAM [SEED [COUNT]]
+    model/random_stories.py PROGRAM [SEED [COUNT]]
 
 PROGRAM is an axcore program. The model (documents.py, trees.py and plays.py beside this file) is written from
 docs/STORY_FORMAT.md alone, and shares nothing with the proved sources; so a definition there that says something else than

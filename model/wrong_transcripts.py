@@ -1,7 +1,7 @@
 #!/usr/bin/env python3
 """Tries the judge of transcripts (legal.py) on transcripts that are legal, and on such as are not.
 
-    cases/wrong_transcripts.py [SEED [COUNT]]
+    model/wrong_transcripts.py [SEED [COUNT]]
 
 It needs no program. First a story by hand, with each kind of wrong transcript. Then random small stories, of which every play
 is tried, in every order of the two sides: what a play writes must be legal, and, with one line changed, lost, doubled or put
