@@ -1,20 +1,28 @@
 """Documents of the second model: nodes, edits, and what refuses an edit.
 
-Written from docs/STORY_FORMAT.md alone, section 3. The limits on counts and lengths are left to limits.py.
+Written from docs/STORY_FORMAT.md alone, section 3.
 """
 
 NODE_KEYS = ("remove", "set", "unset", "runs", "frame", "move")
+DEEPEST, MOST_NODES, LONGEST_VALUE, LONGEST_TEXT = 64, 65536, 4096, 65536
 
 
 class Node:
-    """A text where `text` is given, and else an element."""
+    """A text where `text` is given, and else an element. `facts` is what nodes.py says of it, until it is edited."""
 
     def __init__(self, parent, tag=None, attrs=None, text=None):
         self.parent, self.tag, self.attrs, self.text, self.children = parent, tag, dict(attrs or {}), text, []
-        self.frame, self.runs = [0, 0, 0, 0], []
+        self.frame, self.runs, self.facts = [0, 0, 0, 0], [], None
 
     def is_text(self):
         return self.text is not None
+
+
+def is_too_long(edit):
+    """Whether an attribute value has too many bytes, or a text too many characters."""
+    values = [edit["value"]] if "value" in edit else list(edit.get("attrs", {}).values())
+    text = edit["to"] if "to" in edit else edit["text"] if "text" in edit else ""
+    return len(text) > LONGEST_TEXT or any(len(value.encode()) > LONGEST_VALUE for value in values)
 
 
 class Document:
@@ -57,11 +65,13 @@ class Document:
             return "IntoItself"
         if edit.get("remove") == 1:
             return "RootFixed"
-        if self.deepest_after(edit) > 64:
+        if self.deepest_after(edit) > DEEPEST:
             return "TooDeep"
+        if "insert" in edit and len(self.used) > MOST_NODES:
+            return "TooMany"
         if "runs" in edit and not self.may_have(edit["runs"], edit["list"]):
             return "BadRuns"
-        return None
+        return "TooLong" if is_too_long(edit) else None
 
     def deepest_after(self, edit):
         if "into" not in edit:
@@ -96,6 +106,8 @@ class Document:
 
     def change(self, edit):
         """Does an edit that changes one node."""
+        if "frame" not in edit and "runs" not in edit:
+            self.nodes[next(edit[key] for key in ("set", "unset", "text") if key in edit)].facts = None
         if "set" in edit:
             self.nodes[edit["set"]].attrs[edit["name"]] = edit["value"]
         elif "unset" in edit:

@@ -2,12 +2,18 @@
 import json
 import random
 
-import plays
 from documents import Document
-from plays import BUILT_REQUESTS, Refused, Story
-from trees import BLOCKS, CHECKED, COUNTED, LIVE_ROLES, NAMED_FROM_CONTENT, NAMELESS, RANGES, ROLES, SELECTED, Tree
+from nodes import BLOCKS, CHECKED, COUNTED, LIVE_ROLES, NAMED_FROM_CONTENT, NAMELESS, RANGES, ROLES, SELECTED
+from plays import ABOUT_AN_OBJECT, BUILT_REQUESTS, Refused, Story
+from searches import KEYS
+from trees import Tree
 
 TEXTS = ("Save", "Hi", "one two", " lead", "trail ", "a  b\t", "\u00e9\u4e2d", '"q\\', "x\u0001\u000by", "\u00a0", "", " ", " \n\f\r")
+# Pieces of texts with boundaries of their own. Their properties are the same in Unicode 15.0 and 18.0.
+PIECES = ("e\u0301", "a\u0308\u0323", "\u0301", "\U0001f469\u200d\U0001f467", "\U0001f469\u200d", "\u200d", "\U0001f44d\U0001f3fd", "\u2764\ufe0f",
+          "\U0001f1e9\U0001f1ea", "\U0001f1eb", "\u1112\u1161\u11ab", "\ud55c", "\uac00\u11a8", "\r\n", "\r", "\n", "\t", "\u00ad", "\u200b", "\u2028",
+          "can't", "3.14", "1,000", "a.b", "foo_bar", "x", "7", " ", "  ", ".", "'", '"', "-", "\u05d0\"\u05d1", "\u05d0'", "\u30ab\u30ca", "\u3042", "\u4e2d",
+          "\u0e01\u0e33", "stra\u00dfe", "\u0130", "i\u0307", "\u03c3\u03c2", "\ufb01n", "\u017f", "\u00c9", "\u1e9e", "\u0149", "Ab", "STRASSE")
 LONG_TEXTS = ("w" * 511 + " x", "w" * 512, "w" * 513, "ab  " * 200, " " * 40 + "long " * 60, "\u00e9" * 300)
 YES_AND_NO = ("true", "true", "false", " TRUE\n", "False", "", "yes", "tru e")
 THREE = YES_AND_NO + ("mixed", "mixed", "Mixed ")
@@ -67,7 +73,12 @@ class Words:
     def text(self):
         if self.chance(0.04):
             return self.one_of(*LONG_TEXTS)
+        if self.chance(0.25):
+            return self.pieces()
         return self.one_of(*TEXTS[:4]) if self.chance(0.4) else self.one_of(*TEXTS)
+
+    def pieces(self):
+        return "".join(self.one_of(*PIECES) for _ in self.some(1, 2, 3, 5, 8))
 
     def spaced(self, words):
         if self.chance(0.7):
@@ -166,6 +177,46 @@ class Editor(Words):
                  lambda: {"text": self.text_node(), "to": self.text()}, lambda: {"frame": self.element(), "rect": self.rect()},
                  lambda: {"focus": self.one_of(0, self.id(), self.id(), self.id())})
         return self.random.choices(kinds, (50, 10, 24, 8, 5, 3, 8, 4, 6))[0]()
+
+    # Requests.
+
+    def marker(self):
+        """Mostly a place in a text, and seldom none."""
+        id = self.text_node() if self.chance(0.9) else self.id()
+        node = self.document.nodes.get(id)
+        length = len(node.text) if node and node.is_text() else 1
+        return [id, self.one_of(length, length + 1, 4294967295) if self.chance(0.1) else self.random.randrange(length + 1)]
+
+    def search(self):
+        """Mostly for what is there: some words of a name, in another case."""
+        names = [node.text or node.attrs.get("aria-label", "") for node in self.document.nodes.values()]
+        words = self.one_of(*names, "", "a", "ss", "\u03c3", "fi", "i\u0307", "no such name")[:self.one_of(1, 2, 5, 4096)]
+        text = {"text": self.one_of(words, words.upper(), words.lower(), words.swapcase())} if self.chance(0.6) else {}
+        text = text if len(text.get("text", "").encode()) <= 4096 else {}
+        keys = [self.one_of(*KEYS, "any", "any", "any", "text", "focusable") for _ in self.some(1, 1, 1, 2, 3, 8)]
+        return {"from": self.one_of(0, self.id(), self.id()), "dir": self.one_of("next", "prev"), "keys": keys, **text,
+                "limit": self.one_of(1, 2, 3, 100, 100)}
+
+    def point(self):
+        """Mostly a corner of a frame, or one beside it."""
+        frames = [node.frame for node in self.document.nodes.values() if any(node.frame)]
+        frames += [run[3:] for node in self.document.nodes.values() for run in node.runs] + [[0, 0, 5, 5]]
+        x, y, width, height = self.one_of(*frames)
+        if self.chance(0.02):
+            return {"x": self.one_of(-(1 << 31), (1 << 31) - 1, x), "y": self.one_of(-(1 << 31), (1 << 31) - 1, y)}
+        return {"x": x + self.one_of(0, width, width, width // 2) - self.one_of(0, 1), "y": y + self.one_of(0, height, height // 2) - self.one_of(0, 1)}
+
+    def request(self, word):
+        """A request with this word."""
+        if word in ("root", "focus"):
+            return {"q": word}
+        if word == "children":
+            return {"q": word, "id": self.id(), **({"from": self.random.randrange(3)} if self.chance(0.3) else {})}
+        if word in ABOUT_AN_OBJECT:
+            return {"q": word, "id": self.id()}
+        if word in ("compare", "text", "bounds"):
+            return {"q": word, "a": self.marker(), "b": self.marker()}
+        return {"q": word, **({"search": self.search, "hit": self.point}.get(word) or (lambda: {"at": self.marker()}))()}
 
     def accepted_edit(self):
         """Mostly an edit that the document takes, and does it then."""
@@ -268,13 +319,12 @@ class Maker:
     def request(self, editor):
         word = editor.one_of(*BUILT_REQUESTS)
         if editor.chance(0.002):
-            return {"q": "hit", "x": 0, "y": 0}
-        subject = {} if word in ("root", "focus") else {"id": editor.id()}
-        return {"q": word, **subject, **({"from": editor.random.randrange(3)} if word == "children" and editor.chance(0.3) else {})}
+            word = "hit"
+        return editor.request(word)
 
     def line(self, editor, flushes):
         kind = editor.random.choices(("flush", "until", "ask", "await", "hear", "blank", "notices", "start"),
-                                     (110, 25, 150, 50, 20, 20, 30 if plays.NOTICES_ARE_BUILT else 2, 1))[0]
+                                     (110, 25, 150, 50, 20, 20, 30, 1))[0]
         return {
             "flush": lambda: {"flush": True},
             "until": lambda: {"until": editor.one_of(0, 0, max(flushes - 1, 0), flushes)},
@@ -288,13 +338,12 @@ class Maker:
 
     def last_look(self, editor, flushes):
         """The last moment, and requests about its objects, most of which have something to tell."""
-        empty = ("none", 'description ""', "frame 0 0 0 0", "live off", "states", "children 0")
-        replies, asked = Tree(editor.document).replies, []
-        for words, count in [(("description", "value", "states", "level", "live", "frame"), 60), (BUILT_REQUESTS[2:], 20)]:
-            told = [{"q": word, "id": id} for id in replies for word in words if count == 20 or replies[id][word] not in empty]
-            asked += editor.random.sample(told, min(len(told), count))
-        heard = [{"notices": True}] if plays.NOTICES_ARE_BUILT else []
-        return [{"flush": True}, {"await": flushes + 1}] + [{"again": request} for request in asked + [{"q": "focus"}]] + heard
+        tree, empty = Tree(editor.document), ("none", 'description ""', "frame 0 0 0 0", "live off", "states", "children 0")
+        asked = [{"q": word, "id": id} for id in tree.records for word in ABOUT_AN_OBJECT]
+        telling = [request for request in asked if request["q"] not in ("role", "name", "parent") and tree.answer(request) not in empty]
+        asked = editor.random.sample(telling, min(len(telling), 60)) + editor.random.sample(asked, min(len(asked), 20))
+        asked += [editor.request(word) for word in BUILT_REQUESTS if word not in ABOUT_AN_OBJECT for _ in range(3)]
+        return [{"flush": True}, {"await": flushes + 1}] + [{"again": request} for request in asked] + [{"notices": True}]
 
     def story(self):
         editor, flushes, lines = Editor(self.random.random()), 0, []
@@ -322,8 +371,8 @@ class ThreadedMaker(Maker):
     def look(self, editor):
         """Looks which replies the next flush changes."""
         before, self.tree = self.tree, Tree(editor.document)
-        ids = sorted(set(before.replies) | set(self.tree.replies))
-        asked = [{"q": "focus"}] + [{"q": word, "id": id} for id in ids for word in BUILT_REQUESTS[2:]]
+        ids = sorted(set(before.records) | set(self.tree.records))
+        asked = [{"q": "focus"}] + [{"q": word, "id": id} for id in ids for word in ABOUT_AN_OBJECT]
         changed = [request for request in asked if before.answer(request) != self.tree.answer(request)]
         self.recent = (editor.random.sample(changed, min(len(changed), 6)) + self.recent)[:8]
 

@@ -1,15 +1,27 @@
 """Stories of the second model: which are refused, and what a command writes of the others.
 
-Written from docs/STORY_FORMAT.md alone, sections 4 to 6. The lines are those of section 1; others are left to limits.py.
+Written from docs/STORY_FORMAT.md alone, sections 4 to 6.
 """
-import json
+import os
 
 from documents import Document
+from forms import REQUESTS, NoForm, NoJson, read_line
 from notices import notices
 from trees import Tree
 
-NOTICES_ARE_BUILT = True
-BUILT_REQUESTS = ("root", "focus", "role", "name", "description", "value", "states", "level", "live", "frame", "parent", "children")
+LONGEST_STORY, MOST_FLUSHES, MOST_ASKS, MOST_TURNS = 1 << 24, 65536, 16384, 1 << 20
+ABOUT_AN_OBJECT = ("role", "name", "description", "value", "states", "level", "live", "frame", "parent", "children")
+
+
+def not_built():
+    """The words of the requests that the program does not build yet, one a line in cases/not-built."""
+    path = os.path.join(os.path.dirname(os.path.abspath(__file__)), "..", "cases", "not-built")
+    with open(path, encoding="utf-8") as file:
+        return file.read().split()
+
+
+NOT_BUILT = not_built()
+BUILT_REQUESTS = tuple(word for word in REQUESTS if word not in NOT_BUILT)
 
 
 class Refused(Exception):
@@ -21,11 +33,12 @@ class Story:
     """The lines of a story, or Refused."""
 
     def __init__(self, lines):
-        self.base, self.page, self.client, self.turns, self.started = [], [], [], None, False
+        self.base, self.page, self.client, self.turns, self.started, self.flushes = [], [], [], None, False, 0
         document, awaits = Document(), []
         for number, line in enumerate(lines, 1):
-            if line.strip(" \t\r"):
-                self.take(number, json.loads(line), document, awaits)
+            said = self.read(number, line)
+            if said is not None:
+                self.take(number, said, document, awaits)
         if not self.started:
             raise Refused(0, "NoStart")
         changed = [line for line in self.page if "until" not in line]
@@ -37,6 +50,16 @@ class Story:
                 raise Refused(number, "AwaitTooFar")
         if self.is_stuck([moment for _, moment in awaits]):
             raise Refused(0, "Stuck")
+
+    @staticmethod
+    def read(number, line):
+        """What a line says; None of a blank one."""
+        try:
+            return read_line(line)
+        except NoJson:
+            raise Refused(number, "BadJson") from None
+        except NoForm:
+            raise Refused(number, "BadLine") from None
 
     def take(self, number, line, document, awaits):
         is_edit = not {"start", "flush", "until", "turns", "ask", "again", "hear", "await", "notices"} & set(line)
@@ -53,12 +76,17 @@ class Story:
         elif not self.started:
             raise Refused(number, "NoStart")
         elif "turns" in line:
-            if self.turns is not None or set(line["turns"]) - {"P", "C"}:
+            if self.turns is not None or set(line["turns"]) - {"P", "C"} or len(line["turns"]) > MOST_TURNS:
                 raise Refused(number, "BadTurns")
             self.turns = line["turns"]
         elif "flush" in line or "until" in line:
+            self.flushes += "flush" in line
+            if self.flushes > MOST_FLUSHES:
+                raise Refused(number, "TooManyFlushes")
             self.page.append(line)
         else:
+            if len(self.client) == MOST_ASKS:
+                raise Refused(number, "TooManyAsks")
             self.client.append(line)
             if "await" in line:
                 awaits.append((number, line["await"]))
@@ -86,11 +114,8 @@ class Story:
         return any(line.get("until", 0) > taken for line in self.page)
 
     def asks_what_is_built(self):
-        requests = [line.get("ask") or line.get("again") or {"q": "root"} for line in self.client]
-        return all(request["q"] in BUILT_REQUESTS for request in requests)
-
-    def is_built(self):
-        return self.asks_what_is_built() and (NOTICES_ARE_BUILT or not any("notices" in line for line in self.client))
+        asked = [line.get("ask") or line.get("again") for line in self.client]
+        return not any(request and request["q"] in NOT_BUILT for request in asked)
 
     def trees(self, moments):
         """The trees of these moments, by their numbers."""
@@ -154,13 +179,35 @@ def entry(number, moment, line, trees, first):
     return told + "notices %d\n" % len(listed) + "".join("! %d %s %d\n" % notice for notice in listed)
 
 
+def told(story, command):
+    """What the command writes of an accepted story."""
+    return (story.dumped() if command == "dump" else story.played()) + "end %d\n" % story.flushes
+
+
 def answered(lines, command):
     """What the command writes of these lines, and its status."""
     try:
         story = Story(lines)
-        if not story.is_built():
+        if not story.asks_what_is_built():
             raise Refused(0, "NotBuilt")
     except Refused as refusal:
         return str(refusal), 2
-    text = story.dumped() if command == "dump" else story.played()
-    return text + "end %d\n" % story.flushes, 0
+    return told(story, command), 0
+
+
+def lines_of(source):
+    """The lines of an input, or Refused."""
+    if len(source) > LONGEST_STORY:
+        raise Refused(0, "StoryTooLong")
+    try:
+        return source.decode().split("\n")
+    except UnicodeDecodeError:
+        raise Refused(0, "NotUtf8") from None
+
+
+def answered_of(source, command):
+    """What the command writes of these bytes, and its status."""
+    try:
+        return answered(lines_of(source), command)
+    except Refused as refusal:
+        return str(refusal), 2

@@ -3,10 +3,9 @@
 
     model/random_stories.py PROGRAM [SEED [COUNT]]
 
-PROGRAM is an axcore program. The model (documents.py, trees.py and plays.py beside this file) is written from
-docs/STORY_FORMAT.md alone, and shares nothing with the proved sources; so a definition there that says something else than
-the format shows here. It ends with status 1 at the first story that the two answer otherwise, and prints it. Limits that
-take long stories are left to limits.py.
+PROGRAM is an axcore program. The model (docs/MODEL.md) is written from docs/STORY_FORMAT.md alone, and shares nothing with the
+proved sources; so a definition there that says something else than the format shows here. It ends with status 1 at the first
+story that the two answer otherwise, and prints it. Limits that take long stories are left to limits.py.
 """
 import subprocess
 import sys
