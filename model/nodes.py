@@ -47,6 +47,7 @@ class Facts:
         self.hides, self.is_ignored = id != ROOT and self.finds_hidden(), id != ROOT and self.finds_ignored()
         self.prunes, self.is_block, self.own_live = self.role in PRUNING, self.found_block(), self.found_live()
         self.states, self.level, self.value = self.found_states(), self.found_level(), self.found_value()
+        self.own_id, self.label_for = self.attr("id"), self.attrs.get("for") if node.tag == "label" else None
         self.label, self.title = self.attr("aria-label"), self.attr("title")
         self.embedded = [text for text in self.found_embedded() if not is_blank(text)][:1]
         self.labelled_by = tokens(self.attr("aria-labelledby"))[:MOST_REFERENCES]

@@ -34,9 +34,9 @@ class Shown:
         """What a node gives to its parent: itself, its kids where it is ignored, or nothing."""
         facts, kids = self.facts(id), []
         if not facts.is_text:
-            self.targets.setdefault(facts.attr("id"), id)
-            if facts.tag == "label" and facts.has("for"):
-                self.labels.setdefault(facts.attr("for"), id)
+            self.targets.setdefault(facts.own_id, id)
+            if facts.label_for is not None:
+                self.labels.setdefault(facts.label_for, id)
         hidden, live = hidden or facts.hides, facts.own_live or live
         if hidden:
             self.hidden.add(id)
@@ -97,7 +97,7 @@ class Shown:
             return facts.attr("alt")
         if facts.is_input("button", "submit", "reset"):
             return facts.attr("value")
-        own = facts.attr("id")
+        own = facts.own_id
         if facts.tag not in ("input", "textarea") or self.target(own) != facts.id or own not in self.labels:
             return ""
         return self.said_as_target(self.labels[own])
