@@ -8,7 +8,7 @@ ends with status 1 if one is answered otherwise.
 """
 import sys
 
-from compared import case, compare, refused
+from compared import case, compare, refused, replied
 
 START = '{"start":1}'
 GREATEST = 2147483647
@@ -99,38 +99,38 @@ def alone(title, story):
     case(title, "replay", story, "end 0\n")
 
 
-def asked(title, request, read):
-    """A request that is read, or is no line."""
-    line = [START, '{"again":%s}' % request]
-    refused(title, line, 0, "NotBuilt") if read else refused(title, line, 2, "BadLine")
+def asked(title, request, reply):
+    """A request that is read, with its reply, or is no line."""
+    lines, word = [START, '{"again":%s}' % request], request.split('"')[3]
+    replied(title, lines, word, "#1 @0 %s\nend 0\n" % reply) if reply else refused(title, lines, 2, "BadLine")
 
 
-asked("a marker at 0", '{"q":"next_char","at":[1,0]}', True)
-asked("a marker at the greatest offset", '{"q":"next_char","at":[1,4294967295]}', True)
-asked("a marker past the greatest offset", '{"q":"next_char","at":[1,4294967296]}', False)
-asked("a marker before 0", '{"q":"prev_char","at":[1,-1]}', False)
-asked("a marker without its offset", '{"q":"next_word","at":[1]}', False)
-asked("a marker of three", '{"q":"line","at":[1,0,0]}', False)
-asked("two markers", '{"q":"compare","a":[1,0],"b":[1,0]}', True)
-asked("one marker of two", '{"q":"text","a":[1,0]}', False)
-asked("bounds", '{"q":"bounds","a":[1,0],"b":[1,0]}', True)
-asked("a point at the greatest", '{"q":"hit","x":2147483647,"y":-2147483648}', True)
-asked("a point past the greatest", '{"q":"hit","x":2147483648,"y":0}', False)
-asked("a point below the least", '{"q":"hit","x":0,"y":-2147483649}', False)
+asked("a marker at 0", '{"q":"next_char","at":[1,0]}', "out")
+asked("a marker at the greatest offset", '{"q":"next_char","at":[1,4294967295]}', "out")
+asked("a marker past the greatest offset", '{"q":"next_char","at":[1,4294967296]}', None)
+asked("a marker before 0", '{"q":"prev_char","at":[1,-1]}', None)
+asked("a marker without its offset", '{"q":"next_word","at":[1]}', None)
+asked("a marker of three", '{"q":"line","at":[1,0,0]}', None)
+asked("two markers", '{"q":"compare","a":[1,0],"b":[1,0]}', "out")
+asked("one marker of two", '{"q":"text","a":[1,0]}', None)
+asked("bounds", '{"q":"bounds","a":[1,0],"b":[1,0]}', "out")
+asked("a point at the greatest", '{"q":"hit","x":2147483647,"y":-2147483648}', "none")
+asked("a point past the greatest", '{"q":"hit","x":2147483648,"y":0}', None)
+asked("a point below the least", '{"q":"hit","x":0,"y":-2147483649}', None)
 SEARCH = '{"q":"search","from":%s,"dir":"%s","keys":[%s],"limit":%s%s}'
-asked("a search", SEARCH % (0, "next", '"any"', 1, ""), True)
-asked("a search back", SEARCH % (GREATEST, "prev", ",".join(['"live"'] * 8), 100, ""), True)
-asked("a search of nine keys", SEARCH % (0, "next", ",".join(['"live"'] * 9), 100, ""), False)
-asked("a search of no key", SEARCH % (0, "next", "", 100, ""), False)
-asked("a search of an unknown key", SEARCH % (0, "next", '"lists"', 100, ""), False)
-asked("a search to nowhere", SEARCH % (0, "back", '"any"', 100, ""), False)
-asked("a search for none", SEARCH % (0, "next", '"any"', 0, ""), False)
-asked("a search for 101", SEARCH % (0, "next", '"any"', 101, ""), False)
-asked("a search for 4,096 bytes", SEARCH % (0, "next", '"any"', 1, ',"text":"%s"' % ("a" * 4096)), True)
-asked("a search for 4,097 bytes", SEARCH % (0, "next", '"any"', 1, ',"text":"%s"' % ("a" * 4097)), False)
-asked("an unknown request", '{"q":"roles","id":1}', False)
-asked("a request with a key too many", '{"q":"root","id":1}', False)
-asked("a request with a key too few", '{"q":"name"}', False)
+asked("a search", SEARCH % (0, "next", '"any"', 1, ""), "found 1")
+asked("a search back", SEARCH % (GREATEST, "prev", ",".join(['"live"'] * 8), 100, ""), "stale")
+asked("a search of nine keys", SEARCH % (0, "next", ",".join(['"live"'] * 9), 100, ""), None)
+asked("a search of no key", SEARCH % (0, "next", "", 100, ""), None)
+asked("a search of an unknown key", SEARCH % (0, "next", '"lists"', 100, ""), None)
+asked("a search to nowhere", SEARCH % (0, "back", '"any"', 100, ""), None)
+asked("a search for none", SEARCH % (0, "next", '"any"', 0, ""), None)
+asked("a search for 101", SEARCH % (0, "next", '"any"', 101, ""), None)
+asked("a search for 4,096 bytes", SEARCH % (0, "next", '"any"', 1, ',"text":"%s"' % ("a" * 4096)), "none")
+asked("a search for 4,097 bytes", SEARCH % (0, "next", '"any"', 1, ',"text":"%s"' % ("a" * 4097)), None)
+asked("an unknown request", '{"q":"roles","id":1}', None)
+asked("a request with a key too many", '{"q":"root","id":1}', None)
+asked("a request with a key too few", '{"q":"name"}', None)
 
 
 def framed(title, rect, read):
@@ -258,6 +258,25 @@ case("a reference whose value has 4,096 bytes", "dump",
      [element(2, 1, "span", ',"attrs":{"id":"%s","hidden":""}' % ("i" * 4096)), text(3, 2, "far"),
       element(4, 1, "input", ',"attrs":{"aria-labelledby":"%s"}' % ("i" * 4096)), START],
      ROOT + '4 1 textbox "far"\nend 0\n')
+
+# Long texts.
+def marked(title, chars, **replies):
+    """Requests about a text of 65,536 characters, and a text behind it."""
+    for request, reply in replies.items():
+        word, offset = request.rsplit("_", 1)
+        replied("%s: %s at %s" % (title, word, offset), [text(2, 1, chars), text(3, 1, "z"), START, '{"ask":{"q":"%s","at":[2,%s]}}' % (word, offset)],
+                word, "#1 @0 %s\nend 0\n" % reply)
+
+
+marked("words of 65,536 characters", "ab " * 21845 + "e", next_char_0="marker 2 1", next_char_65535="marker 2 65536",
+       next_char_65536="marker 3 0", next_char_65537="out", prev_char_65536="marker 2 65535", next_word_65533="marker 2 65535",
+       next_word_65535="marker 3 0", next_word_30000="marker 2 30003", next_word_0="marker 2 3", line_65536="none")
+marked("a grapheme of 65,536 characters", "e" + "\u0301" * 65535, next_char_0="marker 2 65536", next_char_65535="marker 2 65536",
+       prev_char_65536="marker 2 0", prev_char_1="marker 2 0", next_word_0="marker 3 0", next_char_65536="marker 3 0")
+marked("65,536 flags, the last one half", "x" + "\U0001f1e9" * 65535, next_char_1="marker 2 3", next_char_65534="marker 2 65535",
+       next_char_65535="marker 2 65536", prev_char_65536="marker 2 65535", prev_char_65535="marker 2 65533")
+marked("65,536 characters that no rule parts", "\u1100" * 65536, next_char_0="marker 2 65536", prev_char_65535="marker 2 0", next_word_5="marker 3 0")
+marked("a blank text of 65,536 characters", "\\r\\n" * 32768, next_char_0="stale")
 
 # Both sides.
 refused("a flush before the start", ['{"flush":true}', START], 1, "NoStart")

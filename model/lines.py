@@ -8,7 +8,7 @@ it. Limits of numbers and lengths are in limits.py. It ends with status 1 if one
 """
 import sys
 
-from compared import case, compare, refused
+from compared import case, compare, refused, replied
 
 START = '{"start":1}'
 ROOT = '1 0 document ""\n'
@@ -59,12 +59,15 @@ SEARCHES = [
     '"from":0,"dir":"next","keys":["any",1],"limit":1', '"from":0,"dir":true,"keys":["any"],"limit":1',
 ]
 
-# Requests that are read and not yet built.
-UNBUILT = [
-    '{"q":"compare","b":[2147483647,4294967295],"a":[1,0]}', '{"q":"text","a":[2,3],"b":[4,5]}', '{"at":[2,3],"q":"prev_char"}',
-    '{"q":"next_word","at":[2,3]}', '{"q":"line","at":[2,3]}', '{"q":"hit","x":-1,"y":1}', '{"q":"search","q":"hit","x":0,"y":0}',
-    '{"q":"search","from":1,"dir":"prev","keys":["text","heading","link","button","checkbox","radio","list","field"],"text":"","limit":2}',
-    '{"q":"search","limit":1,"keys":["control","landmark","table","image","live","focusable","any"],"dir":"next","from":0}',
+# Requests that are read, with their word and their reply in a document that has the root alone.
+REQUESTS = [
+    ('{"q":"compare","b":[2147483647,4294967295],"a":[1,0]}', "compare", "stale"), ('{"q":"text","a":[2,3],"b":[4,5]}', "text", "stale"),
+    ('{"at":[2,3],"q":"prev_char"}', "prev_char", "stale"), ('{"q":"next_word","at":[1,3]}', "next_word", "out"),
+    ('{"q":"line","at":[2,3]}', "line", "stale"), ('{"q":"hit","x":-1,"y":1}', "hit", "none"),
+    ('{"q":"search","q":"hit","x":0,"y":0}', "hit", "none"),
+    ('{"q":"search","from":1,"dir":"prev","keys":["text","heading","link","button","checkbox","radio","list","field"],"text":"","limit":2}',
+     "search", "none"),
+    ('{"q":"search","limit":1,"keys":["control","landmark","table","image","live","focusable","any"],"dir":"next","from":0}', "search", "found 1"),
 ]
 
 
@@ -78,9 +81,9 @@ for line in NO_JSON:
 for line in NO_LINES + ['{"ask":{"q":"search",%s}}' % it for it in SEARCHES]:
     refused(line, [line, START], 1, "BadLine")
     refused(line, [START, line], 2, "BadLine")
-for request in UNBUILT:
+for request, asked, reply in REQUESTS:
     for word in "ask", "again":
-        refused(request, [START, '{"%s":%s}' % (word, request)], 0, "NotBuilt")
+        replied(request, [START, '{"%s":%s}' % (word, request)], asked, "#1 @0 %s\nend 0\n" % reply)
 
 SHOWN = ROOT + '2 1 paragraph ""\n%send 0\n'
 case("white space in a line", "dump", [PARAGRAPH, ' {"start" : 1}\r'], SHOWN % "")
