@@ -238,6 +238,12 @@
       const now = snapshot();
       return now === told ? "" : now;
     },
-    keys_of: (...found) => found.map(key_of),
+    // The elements that `visibility` hides, and the texts in them.
+    unseen() {
+      const hidden = [...recorded].filter(element => getComputedStyle(element).visibility !== "visible");
+      return hidden.flatMap(element => [element, ...Array.from(element.childNodes).filter(each => each.nodeType === Node.TEXT_NODE)]).map(key_of);
+    },
+    // The page as a whole stands for its root element, and that for no node of its own.
+    keys_of: (...found) => found.map(node => node === document ? ROOT : node === document.documentElement ? 0 : key_of(node)),
   };
 })();

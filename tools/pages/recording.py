@@ -7,6 +7,7 @@ import urllib.parse
 
 from browser import Trouble
 from difference import Full, Story
+from model import Document, Tree
 from script import Hands
 
 WORLD = "axcore"
@@ -51,14 +52,16 @@ class Recording:
     def __init__(self, browser, flushes, is_heard):
         self.browser, self.story, self.lines, self.bytes = browser, Story(), [], 0
         self.most, self.is_heard, self.flushes, self.heard_at = min(flushes, MOST_FLUSHES), is_heard, 0, None
-        self.left, self.is_over, self.is_gone, self.is_loaded, self.context = collections.defaultdict(set), None, False, False, None
-        self.last_change = time.monotonic()
+        self.left, self.is_over, self.is_gone, self.context = collections.defaultdict(set), None, False, None
+        self.is_loaded, self.is_idle = False, False
+        self.last_change, self.document, self.modelled = time.monotonic(), Document(), 0
 
     def open(self, page):
         """Opens a page, and writes its document before the start."""
         browser = self.browser
         browser.heard = self.hear
         browser.call("Page.enable")
+        browser.call("Page.setLifecycleEventsEnabled", enabled=True)
         browser.call("Runtime.enable")
         browser.call("Emulation.setFocusEmulationEnabled", enabled=True)
         answer = browser.call("Page.navigate", url=address(page))
@@ -99,6 +102,8 @@ class Recording:
         """Takes an event."""
         if method == "Page.loadEventFired":
             self.is_loaded = True
+        elif method == "Page.lifecycleEvent" and params["name"] == "networkIdle":
+            self.is_idle = self.is_loaded
         elif method == "Page.javascriptDialogOpening":
             self.browser.send("Page.handleJavaScriptDialog", accept=True)
         elif method == "Runtime.bindingCalled" and params["name"] == "tell_frame":
@@ -143,12 +148,13 @@ class Recording:
             self.flushes += 1
 
     def settle(self, least):
-        """Hears the page for so many seconds, and then until nothing changes for a while, or the step is long enough."""
+        """Hears the page for so many seconds, and then until it has loaded what it asks for and nothing changes for a while, or the
+        step is long enough."""
         begin = time.monotonic()
         while not self.is_over:
             now = time.monotonic()
             waited, still = now - begin, now - max(self.last_change, begin)
-            if waited >= least and (still >= QUIET or waited >= least + LONGEST_STEP):
+            if waited >= least and (self.is_idle and still >= QUIET or waited >= least + LONGEST_STEP):
                 break
             self.browser.receive(0.05)
 
@@ -176,11 +182,19 @@ class Recording:
         """Writes what a client does at this moment: it asks about the focus, and for what happened. The page waits for it."""
         if not self.is_heard or self.heard_at == self.flushes:
             return
-        self.heard_at, focus = self.flushes, self.story.focus
+        self.heard_at, focus = self.flushes, self.focused_object()
         asked = [{"q": "focus"}] + [{"q": word, "id": focus} for word in ("role", "name", "description", "states", "value") if focus]
         told = self.write(([{"until": self.flushes}] if self.flushes else []) + [{"await": self.flushes}])
         if told:
             self.write([{"again": request} for request in asked] + ([{"notices": True}] if self.flushes else []))
+
+    def focused_object(self):
+        """The object with the focus, by the second model; None without one."""
+        for line in map(json.loads, self.lines[self.modelled:]):
+            if not {"start", "flush", "until", "await", "again", "notices"} & set(line):
+                self.document.apply(line)
+        self.modelled = len(self.lines)
+        return Tree(self.document).focus
 
     def text(self):
         return "".join(line + "\n" for line in self.lines)
