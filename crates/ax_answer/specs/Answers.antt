@@ -1,5 +1,5 @@
 -- What a tree answers to a request (Core Accessibility API Mappings 1.2, section 5: mapping WAI-ARIA to accessibility APIs).
-use Rattle.std.specs.Prelude.{ℕ, ◌-◌, ◌^◌, min, Bool, true, false, List, length, take, drop, Option, Some, None}
+use Rattle.std.specs.Prelude.{ℕ, Bool, true, false, List, length, take, drop, Option, Some, None}
 use Rattle.std.specs.Option.{option_map_or}
 use Rattle.ax_base.specs.Document.{root}
 use Rattle.ax_ask.specs.declared.requests.Request.{Request}
@@ -57,15 +57,11 @@ asked_object (BoundsOf from to) = None
 asked_object (Search r) = None
 asked_object (Hit x y) = None
 
--- how many children there are, up to the greatest number that is told
-abbrev pub count_of : List ℕ → ℕ
-count_of kids = min (length kids) (2 ^ 32 - 1)
-
 -- the children from a place on, counted from 0, up to 256 of them
 abbrev pub children_from : ℕ → List ℕ → List ℕ
 children_from from kids = take 256 (drop from kids)
 
--- what the record of an object answers to a request about it
+-- what the record of an object answers to a request about it; of its children, how many there are in all, and some of them
 abbrev pub answer_of : Record → Request → Reply
 answer_of r Root = Nothing
 answer_of r Focus = Nothing
@@ -78,7 +74,7 @@ answer_of r (Level id) = option_map_or TheLevel r.level Nothing
 answer_of r (Live id) = TheLive r.live
 answer_of r (Frame id) = TheFrame r.frame
 answer_of r (Parent id) = option_map_or TheParent r.parent Nothing
-answer_of r (Children id from) = TheChildren (count_of r.kids) (children_from from r.kids)
+answer_of r (Children id from) = TheChildren (length r.kids) (children_from from r.kids)
 answer_of r (Compare a b) = Nothing
 answer_of r (NextChar at) = Nothing
 answer_of r (PrevChar at) = Nothing

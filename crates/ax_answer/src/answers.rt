@@ -1,6 +1,6 @@
 //! The answer to a request.
-ghost use Rattle.std.specs.Prelude.{◌≡◌, IfOk, IsTrue};
-ghost use Rattle.ax_answer.specs.Answers.{is_answered, asked_object, answer_of, answer_whole, answer, count_of, children_from};
+ghost use Rattle.std.specs.Prelude.{◌≡◌, ◌≤◌, length, IfOk, IsTrue};
+ghost use Rattle.ax_answer.specs.Answers.{is_answered, asked_object, answer_of, answer_whole, answer, children_from};
 
 use ax_ask::{Reply, Request};
 use ax_base::{Ids, NoMemory, ObjId};
@@ -85,6 +85,7 @@ fn answer_whole<T: TreeView>(t: &T, q: &Request) -> Reply
 
 /// What the record of an object answers to a request about it.
 fn answer_of(alloc: Global, object: &Record, q: &Request) -> Result<Reply, NoMemory>
+    requires few { length object.now.kids ≤ 65537 }
     ensures { IfOk result (λ r. r ≡ answer_of object.now q.now) }
 {
     Ok(match q {
@@ -124,11 +125,12 @@ fn answer_of(alloc: Global, object: &Record, q: &Request) -> Result<Reply, NoMem
     })
 }
 
-/// How many children there are, up to the greatest number that is told.
+/// How many children there are.
 fn count_of(kids: &[ObjId]) -> u32
-    ensures { result ≡ count_of kids.now }
+    requires { length kids.now ≤ 65537 }
+    ensures { result ≡ length kids.now }
 {
-    u32::try_from(kids.len()).unwrap_or(u32::MAX)
+    kids.len() as u32
 }
 
 /// The children from a place on, counted from 0, up to 256 of them.

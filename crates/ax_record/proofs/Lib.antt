@@ -5,3 +5,4 @@ pub mod RoleEquality
 pub mod Equalities
 pub mod TakenOver
 pub mod Walking
+pub mod FewKids
