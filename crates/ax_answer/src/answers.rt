@@ -2,19 +2,22 @@
 ghost use Rattle.std.specs.Prelude.{◌≡◌, ◌≤◌, length, IfOk, IsTrue};
 ghost use Rattle.ax_answer.specs.Answers.{is_answered, asked_object, answer_of, answer_whole, answer, children_from};
 
+use crate::searches::answer_search;
 use ax_ask::{Reply, Request};
 use ax_base::{Ids, NoMemory, ObjId};
 use ax_record::{Record, TreeView};
+use hit_test::hit;
 use std::alloc::Global;
 
-/// What a tree answers to a request about its root, its focus or an object. About an object it answers `Stale` exactly
-/// where the tree lacks it. The only error is want of memory for a copy of a text or of ids.
+/// What a tree answers to a request about its root, its focus or an object, to a search or to a point. It answers `Stale`
+/// exactly where the tree lacks the object that is asked about, or from which a search goes on. The only error is want of
+/// memory for a copy of a text or of ids, or for a search.
 pub fn answer<T: TreeView>(alloc: Global, t: &T, q: &Request) -> Result<Reply, NoMemory>
     requires { IsTrue (is_answered q.now) }
     ensures { IfOk result (λ r. r ≡ answer (T.tree t.now) q.now) }
 {
     let Some(id) = asked_object(q) else {
-        return Ok(answer_whole(t, q));
+        return answer_whole(alloc, t, q);
     };
     match t.find(id) {
         None => Ok(Reply::Stale),
@@ -52,10 +55,10 @@ fn asked_object(q: &Request) -> Option<ObjId>
 }
 
 /// What a tree answers to a request that is about no object of its own.
-fn answer_whole<T: TreeView>(t: &T, q: &Request) -> Reply
-    ensures { result ≡ answer_whole (T.tree t.now) q.now }
+fn answer_whole<T: TreeView>(alloc: Global, t: &T, q: &Request) -> Result<Reply, NoMemory>
+    ensures { IfOk result (λ r. r ≡ answer_whole (T.tree t.now) q.now) }
 {
-    match q {
+    Ok(match q {
         Request::Root => Reply::Root(t.root()),
         Request::Focus => match t.focus() {
             Some(id) => Reply::Focus(id),
@@ -77,10 +80,13 @@ fn answer_whole<T: TreeView>(t: &T, q: &Request) -> Reply
         | Request::NextWord(_)
         | Request::LineAt(_)
         | Request::TextOf(_, _)
-        | Request::BoundsOf(_, _)
-        | Request::Search(_)
-        | Request::Hit(_, _) => Reply::Nothing,
-    }
+        | Request::BoundsOf(_, _) => Reply::Nothing,
+        Request::Search(search) => answer_search(alloc, t, search)?,
+        Request::Hit(x, y) => match hit(t, *x, *y) {
+            Some(id) => Reply::Hit(id),
+            None => Reply::Nothing,
+        },
+    })
 }
 
 /// What the record of an object answers to a request about it.

@@ -27,10 +27,12 @@ module _ (t : Tree) where
   flat levels [] = refl
   flat levels (k ∷ ks) = ap (λ l. objects_within t levels k ++ l) (flat levels ks)
 
-  lowest : (n : ℕ) → objects_within t 0 n ≡ n ∷ []
+  -- an object alone, with no level below it
+  pub lowest : (n : ℕ) → objects_within t 0 n ≡ n ∷ []
   unfolding from_below
   lowest n = refl
 
+  -- an object, and what is below each of its kids
   pub above : (levels n : ℕ) → objects_within t (suc levels) n ≡ n ∷ flat_map (objects_within t levels) (kids_of t n)
   unfolding from_below
   above levels n = ap (λ l. n ∷ l) (flat levels (kids_of t n))
