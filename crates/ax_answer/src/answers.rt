@@ -9,6 +9,7 @@ use std::alloc::Global;
 
 /// What a tree answers to a request about its root, its focus or an object. About an object it answers `Stale` exactly
 /// where the tree lacks it. The only error is want of memory for a copy of a text or of ids.
+#[tactic(auto, using(ax_record::proofs::FewKids::few_of))]
 pub fn answer<T: TreeView>(alloc: Global, t: &T, q: &Request) -> Result<Reply, NoMemory>
     requires { IsTrue (is_answered q.now) }
     ensures { IfOk result (λ r. r ≡ answer (T.tree t.now) q.now) }
