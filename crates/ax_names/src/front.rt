@@ -158,13 +158,10 @@ impl Front {
         Ok(())
     }
 
-    /// Puts a text in, made flat, where white space came before it or not. It reads nothing where nothing changes any more.
+    /// Puts a text in, made flat, where white space came before it or not.
     pub fn put_flat(&mut self, white: bool, text: &str) -> Result<(), NoMemory>
         ensures { OnOk result (self.new ≡ followed self.old (spaced self.old.words (white || begins_white text.now) (flat text.now))) }
     {
-        if self.more {
-            return Ok(());
-        }
         if is_evenly_spaced(text) {
             self.put_even(white, text)
         } else {
