@@ -12,6 +12,7 @@ use std::alloc::Global;
 /// What a tree answers to a request about its root, its focus or an object, to a search or to a point. It answers `Stale`
 /// exactly where the tree lacks the object that is asked about, or from which a search goes on. The only error is want of
 /// memory for a copy of a text or of ids, or for a search.
+#[tactic(auto, using(ax_record::proofs::FewKids::few_of))]
 pub fn answer<T: TreeView>(alloc: Global, t: &T, q: &Request) -> Result<Reply, NoMemory>
     requires { IsTrue (is_answered q.now) }
     ensures { IfOk result (λ r. r ≡ answer (T.tree t.now) q.now) }
