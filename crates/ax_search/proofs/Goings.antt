@@ -9,8 +9,8 @@ use Rattle.ax_record.specs.declared.record.Record.{Record}
 use Rattle.ax_record.specs.Tree.{Tree, preorder, has_object, record_at}
 use Rattle.ax_record.specs.ObjectTrees.{IsObjectTree}
 use Rattle.ax_record.proofs.Preorder.{preorder_once, in_preorder}
-use Rattle.ax_walk.specs.Orders.{after, before, wanted_at}
-use Rattle.ax_walk.proofs.Lists.{after_is, before_is, parted}
+use Rattle.ax_record.specs.Orders.{after, before, wanted_at}
+use Rattle.ax_record.proofs.Lists.{after_is, before_is, parted}
 use Rattle.ax_search.specs.Searches.{candidates, found_among}
 
 module _ (q : ℕ → Bool) where

@@ -6,7 +6,7 @@ use Rattle.ax_ask.specs.declared.requests.SearchKey.{SearchKey}
 use Rattle.ax_ask.specs.declared.requests.SearchRequest.{SearchRequest}
 use Rattle.ax_record.specs.declared.record.Record.{Record}
 use Rattle.ax_record.specs.Tree.{Tree, preorder}
-use Rattle.ax_walk.specs.Orders.{wanted_at, after, before}
+use Rattle.ax_record.specs.Orders.{wanted_at, after, before}
 use Rattle.ax_search.specs.Keys.{has_any_key}
 use Rattle.ax_search.specs.Folding.{folded, holds}
 

@@ -2,14 +2,13 @@
 ghost use Rattle.std.specs.Prelude.{◌≡◌, IfOk, IfSome, IsTrue, find};
 ghost use Rattle.ax_record.specs.Tree.{has_object};
 ghost use Rattle.ax_record.specs.ObjectTrees.{IsObjectTree};
-ghost use Rattle.ax_walk.specs.Orders.{wanted_at};
+ghost use Rattle.ax_record.specs.Orders.{wanted_at};
 ghost use Rattle.ax_search.specs.Searches.{candidates, found_among, found};
 
 use crate::sought::{Sought, fold_words};
 use ax_ask::SearchRequest;
 use ax_base::{Ids, NoMemory, ObjId};
-use ax_record::TreeView;
-use ax_walk::{Wanted, first, first_after, last, last_before};
+use ax_record::{TreeView, Wanted, first, first_after, last, last_before};
 use std::alloc::Global;
 
 /// What a search finds: of the objects behind the origin in preorder or, backward, of those before it in reverse, and

@@ -2,7 +2,7 @@
 use Rattle.std.specs.Prelude.{ℕ, ℤ, find, Option, reverse}
 use Rattle.ax_base.specs.Rects.{holds_point}
 use Rattle.ax_record.specs.Tree.{Tree, preorder}
-use Rattle.ax_walk.specs.Orders.{wanted_at}
+use Rattle.ax_record.specs.Orders.{wanted_at}
 
 -- the last object in preorder whose frame holds the point
 abbrev pub hit : Tree → ℤ → ℤ → Option ℕ

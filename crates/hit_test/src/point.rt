@@ -5,8 +5,7 @@ ghost use Rattle.ax_record.specs.declared.record.Record.{Record};
 ghost use Rattle.hit_test.specs.Hits.{hit};
 
 use ax_base::{ObjId, contains_point};
-use ax_record::{Record, TreeView};
-use ax_walk::{Wanted, last};
+use ax_record::{Record, TreeView, Wanted, last};
 use std::convert::Infallible;
 
 /// The objects whose frames hold a point.

@@ -1,5 +1,5 @@
 use Rattle.std.proofs.Common.{◌≡◌, ◌-◌, ◌+◌, Some, ◌++◌, sym, ◌∙◌, ap, arith}
-use Rattle.ax_walk.specs.Orders.{wanted_at}
+use Rattle.ax_record.specs.Orders.{wanted_at}
 use Rattle.ax_search.specs.Searches.{candidates, found_among}
 use Rattle.ax_search.proofs.Goings.{goes_on, at_the_end, at_the_limit}
 use Rattle.ax_search.proofs.gather.gather.Goals as goal

@@ -1,7 +1,7 @@
 use Rattle.std.proofs.Common.{◌≡◌, ◌++◌, ◌-◌, IsTrue}
 use Rattle.std.specs.Prelude.{IfSome}
 use Rattle.ax_record.specs.Tree.{has_object}
-use Rattle.ax_walk.specs.Orders.{wanted_at}
+use Rattle.ax_record.specs.Orders.{wanted_at}
 use Rattle.ax_search.specs.Searches.{candidates, found_among}
 use Rattle.ax_search.proofs.gather.gather.Given as goal
 

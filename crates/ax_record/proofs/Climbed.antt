@@ -9,10 +9,10 @@ use Rattle.ax_record.specs.declared.record.Record.{Record}
 use Rattle.ax_record.specs.Tree.{Tree, record_at, has_object, kids_of, parent_of, preorder, IsKid, objects_within}
 use Rattle.ax_record.specs.ObjectTrees.{IsObjectTree}
 use Rattle.ax_record.proofs.Preorder.{has_kids}
-use Rattle.ax_walk.specs.Orders.{back_within, wanted_at, after, before}
-use Rattle.ax_walk.proofs.Past.{past}
-use Rattle.ax_walk.proofs.Lists.{found_in_front, none_in_front, reverse-flat_map}
-use Rattle.ax_walk.proofs.Climbs.{after_below, past_kid, past_root, before_kid, before_root, hangs_on, is_root}
+use Rattle.ax_record.specs.Orders.{back_within, wanted_at, after, before}
+use Rattle.ax_record.proofs.Past.{past}
+use Rattle.ax_record.proofs.Lists.{found_in_front, none_in_front, reverse-flat_map}
+use Rattle.ax_record.proofs.Climbs.{after_below, past_kid, past_root, before_kid, before_root, hangs_on, is_root}
 
 module _ (t : Tree) where
   kids_are : (n : ℕ) (r : Record) → Some r ≡ record_at t n → r.kids ≡ kids_of t n

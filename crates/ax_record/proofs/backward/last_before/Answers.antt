@@ -1,6 +1,6 @@
 use Rattle.std.proofs.Common.{sym, ◌∙◌}
-use Rattle.ax_walk.proofs.Climbed.{known, parent_is, above_known, climbs, found_earlier, parent_wanted, none_earlier, none_before}
-use Rattle.ax_walk.proofs.backward.last_before.Goals as goal
+use Rattle.ax_record.proofs.Climbed.{known, parent_is, above_known, climbs, found_earlier, parent_wanted, none_earlier, none_before}
+use Rattle.ax_record.proofs.backward.last_before.Goals as goal
 
 pub returns-in_default-find-clause-found : goal.returns-in_default-find-clause-found
 returns-in_default-find-clause-found g c = absurd (above_known (g.T.TreeView.tree c.args.tree.now) c.in-Some.ensures.is_tree c.loop-above.at c.in-Some-above.parent c.loop-above.above c.loop-above.invariant.1 c.loop-above.invariant.2 c.in-Some-above.is c.in_default-find.ensures.value)

@@ -10,9 +10,9 @@ use Rattle.ax_base.proofs.Reached.{reached-below}
 use Rattle.ax_record.specs.Tree.{Tree, has_object, kids_of, preorder, parent_of, IsKid, objects_within}
 use Rattle.ax_record.specs.ObjectTrees.{IsObjectTree}
 use Rattle.ax_record.proofs.Preorder.{preorder_once, has_kids}
-use Rattle.ax_walk.specs.Orders.{after, before}
-use Rattle.ax_walk.proofs.Past.{past}
-use Rattle.ax_walk.proofs.Lists.{parted, before_is, after_is, drop_front}
+use Rattle.ax_record.specs.Orders.{after, before}
+use Rattle.ax_record.proofs.Past.{past}
+use Rattle.ax_record.proofs.Lists.{parted, before_is, after_is, drop_front}
 
 module _ (t : Tree) (hangs : IsObjectTree t) where
   rank : ℕ → ℕ

@@ -1,6 +1,6 @@
 use Rattle.std.proofs.Common.{sym, ◌∙◌}
-use Rattle.ax_walk.proofs.Climbed.{known, parent_is, above_known, climbs, below_origin, past_origin, found_later, none_later, none_past}
-use Rattle.ax_walk.proofs.forward.first_after.Goals as goal
+use Rattle.ax_record.proofs.Climbed.{known, parent_is, above_known, climbs, below_origin, past_origin, found_later, none_later, none_past}
+use Rattle.ax_record.proofs.forward.first_after.Goals as goal
 
 pub returns-in-Some-2-clause-found : goal.returns-in-Some-2-clause-found
 returns-in-Some-2-clause-found g c =

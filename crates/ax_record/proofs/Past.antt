@@ -2,7 +2,7 @@
 use Rattle.std.specs.Prelude.{ℕ, List, length, drop}
 use Rattle.std.specs.List.{flat_map}
 use Rattle.ax_record.specs.Tree.{Tree, kids_of, preorder, objects_within}
-use Rattle.ax_walk.specs.Orders.{after}
+use Rattle.ax_record.specs.Orders.{after}
 
 -- the objects after an object in preorder that are not below it
 abbrev pub past : Tree → ℕ → List ℕ

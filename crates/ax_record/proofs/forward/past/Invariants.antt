@@ -1,6 +1,6 @@
 use Rattle.std.proofs.Common.{◌≡◌, length}
-use Rattle.ax_walk.specs.Orders.{after}
-use Rattle.ax_walk.proofs.forward.past.Given as goal
+use Rattle.ax_record.specs.Orders.{after}
+use Rattle.ax_record.proofs.forward.past.Given as goal
 
 -- what comes after the id is what comes after it in what is left
 abbrev pub invariant-loop-left : goal.invariant-loop-left

@@ -1,9 +1,9 @@
 use Rattle.std.proofs.Common.{◌≡◌, true, length}
 use Rattle.std.specs.Prelude.{find}
 use Rattle.ax_record.specs.Tree.{has_object, parent_of, preorder}
-use Rattle.ax_walk.specs.Orders.{wanted_at, after, before}
-use Rattle.ax_walk.proofs.Past.{past}
-use Rattle.ax_walk.proofs.forward.first_after.Given as goal
+use Rattle.ax_record.specs.Orders.{wanted_at, after, before}
+use Rattle.ax_record.proofs.Past.{past}
+use Rattle.ax_record.proofs.forward.first_after.Given as goal
 
 -- none is wanted of those between the first object and what is past the one at hand
 abbrev pub invariant-loop-above : goal.invariant-loop-above

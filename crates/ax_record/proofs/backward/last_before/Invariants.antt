@@ -1,8 +1,8 @@
 use Rattle.std.proofs.Common.{◌≡◌, true, reverse, length}
 use Rattle.std.specs.Prelude.{find}
 use Rattle.ax_record.specs.Tree.{has_object, parent_of, preorder}
-use Rattle.ax_walk.specs.Orders.{wanted_at, before}
-use Rattle.ax_walk.proofs.backward.last_before.Given as goal
+use Rattle.ax_record.specs.Orders.{wanted_at, before}
+use Rattle.ax_record.proofs.backward.last_before.Given as goal
 
 -- none between the object at hand and the first one is wanted
 abbrev pub invariant-loop-above : goal.invariant-loop-above

@@ -1,6 +1,6 @@
 use Rattle.std.proofs.Common.{◌≡◌, ◌≤◌, ◌-◌, ◌++◌, length, take, drop}
-use Rattle.ax_walk.specs.Orders.{before}
-use Rattle.ax_walk.proofs.backward.front.Given as goal
+use Rattle.ax_record.specs.Orders.{before}
+use Rattle.ax_record.proofs.backward.front.Given as goal
 
 -- what was passed comes before the id
 abbrev pub invariant-loop-end : goal.invariant-loop-end

@@ -3,7 +3,7 @@ ghost use Rattle.std.specs.Prelude.{◌≡◌, Bool, IfOk};
 ghost use Rattle.ax_record.specs.ObjectTrees.{KeepsBounds};
 ghost use Rattle.ax_record.specs.declared.record.Record.{Record};
 
-use ax_record::Record;
+use crate::Record;
 
 /// What a walk looks for. `Error` is what the test may end with, as want of memory; it is `Infallible` where there is
 /// no such thing.

@@ -1,10 +1,10 @@
 use Rattle.std.proofs.Common.{sym, ◌∙◌, refl, arith}
 use Rattle.std.proofs.lemmas.Result.{IfOk-weaker}
 use Rattle.ax_record.specs.Tree.{objects_within}
-use Rattle.ax_walk.specs.Orders.{wanted_at}
-use Rattle.ax_walk.proofs.Found.{none_there, wanted_itself, lowest_unwanted, among_kids}
-use Rattle.ax_walk.proofs.Joined.{first_here, none_more, none_of_all}
-use Rattle.ax_walk.proofs.forward.+walk.Goals as goal
+use Rattle.ax_record.specs.Orders.{wanted_at}
+use Rattle.ax_record.proofs.Found.{none_there, wanted_itself, lowest_unwanted, among_kids}
+use Rattle.ax_record.proofs.Joined.{first_here, none_more, none_of_all}
+use Rattle.ax_record.proofs.forward.+walk.Goals as goal
 
 pub first_among-loop-id-init : goal.first_among-loop-id-init
 first_among-loop-id-init g t c = refl

@@ -2,8 +2,8 @@ use Rattle.std.proofs.Common.{◌≡◌, ◌+◌, ◌*◌, take}
 use Rattle.std.specs.Prelude.{find, None}
 use Rattle.std.specs.List.{flat_map}
 use Rattle.ax_record.specs.Tree.{objects_within}
-use Rattle.ax_walk.specs.Orders.{wanted_at}
-use Rattle.ax_walk.proofs.forward.+walk.Given as goal
+use Rattle.ax_record.specs.Orders.{wanted_at}
+use Rattle.ax_record.proofs.forward.+walk.Given as goal
 
 abbrev pub decreases-first_among : goal.decreases-first_among
 decreases-first_among g l = 2 * l.levels + 1

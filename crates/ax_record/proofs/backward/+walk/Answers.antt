@@ -1,9 +1,9 @@
 use Rattle.std.proofs.Common.{◌-◌, length, take, length-take, sym, ◌∙◌, arith}
 use Rattle.std.proofs.lemmas.Result.{IfOk-weaker}
-use Rattle.ax_walk.specs.Orders.{wanted_at, back_within}
-use Rattle.ax_walk.proofs.Found.{none_back, back_in_kids, back_wanted, back_unwanted, below_none, below_some}
-use Rattle.ax_walk.proofs.Joined.{ends_with, none_of, last_here, last_later}
-use Rattle.ax_walk.proofs.backward.+walk.Goals as goal
+use Rattle.ax_record.specs.Orders.{wanted_at, back_within}
+use Rattle.ax_record.proofs.Found.{none_back, back_in_kids, back_wanted, back_unwanted, below_none, below_some}
+use Rattle.ax_record.proofs.Joined.{ends_with, none_of, last_here, last_later}
+use Rattle.ax_record.proofs.backward.+walk.Goals as goal
 
 pub last_among-loop-left-preserved : goal.last_among-loop-left-preserved
 last_among-loop-left-preserved g t c = (

@@ -1,8 +1,8 @@
 use Rattle.std.proofs.Common.{◌≡◌, ◌+◌, ◌*◌, reverse, length, ◌≤◌}
 use Rattle.std.specs.Prelude.{find}
 use Rattle.std.specs.List.{flat_map}
-use Rattle.ax_walk.specs.Orders.{wanted_at, back_within}
-use Rattle.ax_walk.proofs.backward.+walk.Given as goal
+use Rattle.ax_record.specs.Orders.{wanted_at, back_within}
+use Rattle.ax_record.proofs.backward.+walk.Given as goal
 
 abbrev pub decreases-last_among : goal.decreases-last_among
 decreases-last_among g l = 3 * l.levels + 2

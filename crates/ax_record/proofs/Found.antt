@@ -7,8 +7,8 @@ use Rattle.std.proofs.lemmas.List.{reverse-append}
 use Rattle.ax_record.specs.declared.record.Record.{Record}
 use Rattle.ax_record.proofs.Walking.{lowest, above}
 use Rattle.ax_record.specs.Tree.{Tree, record_at, kids_of, objects_within}
-use Rattle.ax_walk.specs.Orders.{back_within, back_below, wanted_at}
-use Rattle.ax_walk.proofs.Lists.{found_in_front, none_in_front, reverse-flat_map}
+use Rattle.ax_record.specs.Orders.{back_within, back_below, wanted_at}
+use Rattle.ax_record.proofs.Lists.{found_in_front, none_in_front, reverse-flat_map}
 
 module _ (t : Tree) where
   kids_are : (n : ℕ) (r : Record) → Some r ≡ record_at t n → r.kids ≡ kids_of t n

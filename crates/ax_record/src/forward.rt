@@ -3,11 +3,11 @@ ghost use Rattle.std.specs.Prelude.{◌≡◌, IfOk, IsTrue, find};
 ghost use Rattle.std.specs.List.{flat_map};
 ghost use Rattle.ax_record.specs.Tree.{has_object, objects_within, preorder};
 ghost use Rattle.ax_record.specs.ObjectTrees.{IsObjectTree};
-ghost use Rattle.ax_walk.specs.Orders.{wanted_at, after};
+ghost use Rattle.ax_record.specs.Orders.{wanted_at, after};
 
 use crate::Wanted;
 use ax_base::ObjId;
-use ax_record::TreeView;
+use crate::TreeView;
 
 /// How far below the root a walk goes. No object is deeper.
 pub(crate) const LEVELS: u32 = 128;

@@ -3,12 +3,12 @@ ghost use Rattle.std.specs.Prelude.{◌≡◌, IfOk, IsTrue, find, reverse};
 ghost use Rattle.std.specs.List.{flat_map};
 ghost use Rattle.ax_record.specs.Tree.{has_object, preorder};
 ghost use Rattle.ax_record.specs.ObjectTrees.{IsObjectTree};
-ghost use Rattle.ax_walk.specs.Orders.{wanted_at, back_within, back_below, before};
+ghost use Rattle.ax_record.specs.Orders.{wanted_at, back_within, back_below, before};
 
 use crate::Wanted;
 use crate::forward::LEVELS;
 use ax_base::ObjId;
-use ax_record::TreeView;
+use crate::TreeView;
 
 /// The last object in preorder that is wanted, or `None` where none is. It goes from the last object backward. The only
 /// error is that of the test.
