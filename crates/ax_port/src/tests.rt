@@ -20,7 +20,8 @@ fn quiet_story(alloc: Global, count: u32) -> Result<Story, Fail>
     ensures { IfOk result (λ s. IsQuiet s count) }
 {
     let mut page = Vec::new(alloc);
-    for _done in 0..count {
+    for done in 0..count {
+        let _done = done;
         page.push(PageLine::Flush)?;
     }
     match Story::new(Vec::new(alloc), page, Vec::new(alloc), Vec::new(alloc)) {
@@ -83,7 +84,8 @@ fn publish_all<R: Wait>(rt: &R, alloc: Global, ports: &Ports, port: PagePort) ->
     ensures { result.table ≡ ports.now.table }
 {
     let mut port = port;
-    for _done in 0..MOMENTS {
+    for done in 0..MOMENTS {
+        let _done = done;
         if publish(rt, alloc, ports, &mut port, MOMENTS).is_err() {
             port.close(ports);
             return port;
@@ -123,16 +125,17 @@ fn two_threads_hand_moments_over(rt: HostRuntime) -> Result<(), Fail> {
     let alloc = rt.alloc();
     let story = quiet_story(alloc, MOMENTS)?;
     let (ports, page, client) = open_ports(alloc, &story)?;
+    let shared = &ports;
     let (page, (client, in_order)) = thread::join(
         &rt,
         || -> PagePort
-            requires { MayPublish ports.now MOMENTS page × (page.page.published ≡ 0) }
-            ensures { result.table ≡ ports.entry.now.table }
-        { publish_all(&rt, alloc, &ports, page) },
+            requires { MayPublish shared.now MOMENTS page × (page.page.published ≡ 0) }
+            ensures { result.table ≡ shared.entry.now.table }
+        { publish_all(&rt, alloc, shared, page) },
         || -> (ClientPort, bool)
-            requires { (client.table ≡ ports.now.table) × (client.client.over ≡ false) }
-            ensures { result.0.table ≡ ports.entry.now.table }
-        { take_all(&rt, &ports, client) },
+            requires { (client.table ≡ shared.now.table) × (client.client.over ≡ false) }
+            ensures { result.0.table ≡ shared.entry.now.table }
+        { take_all(&rt, shared, client) },
     );
     let last = ports.finish(page, client);
     assert!(rt; in_order && last.published == Moment(MOMENTS) && last.taken == Moment(MOMENTS));
