@@ -207,6 +207,10 @@ class Told:
 
     def __init__(self, seed):
         self.page = Page(seed)
+        self.begin()
+
+    def begin(self):
+        """Before the first edit."""
         self.base, self.page.lines = self.page.lines + ['{"start":1}'], []
         self.turns, self.lines, self.written, self.asked, self.looked = "", [], "", 0, 0
         self.tree = self.seen = Tree(self.page.document)
