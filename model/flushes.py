@@ -30,7 +30,8 @@ TURNS_OF_A_SECTION = {
     "title": ("Title", " "), "aria-label": ("Label", ""), "aria-live": ("polite", "off", "assertive"),
 }
 TURNS_OF_AN_ITEM = {
-    **TURNS_OF_A_SECTION, "href": ("/",), "type": ("checkbox", "submit", "hidden", "range", "text"), "value": ("v", "", "w"), "alt": ("alt", ""),
+    **TURNS_OF_A_SECTION, "href": ("/",), "value": ("v", "", "w"), "alt": ("alt", ""),
+    "type": ("checkbox", "submit", "hidden", "range", "text"),
     "aria-checked": ("true", "mixed", "false"), "aria-expanded": ("true", "false"), "aria-selected": ("true", "false"),
     "aria-pressed": ("true", "mixed"), "aria-level": ("2", "3"), "checked": ("",), "disabled": ("",), "required": ("",),
     "aria-busy": ("true",), "aria-valuetext": ("half", ""), "aria-valuenow": ("5",),
@@ -304,7 +305,7 @@ def main():
         told = made("%d-%d" % (seed, stories), min(FLUSHES_OF_A_STORY, wanted - flushes))
         compare(sys.argv[1], "%d-%d" % (seed, stories), told)
         stories, flushes, looked, asked = stories + 1, flushes + told.moment, looked + told.looked, asked + told.asked
-    print("flushes: %d of %d stories as the model has them, at %d moments of which the client asked; %d client lines" % (flushes, stories, looked, asked))
+    print("flushes: %d of %d stories as the model has them; the client asked at %d moments, in %d lines" % (flushes, stories, looked, asked))
 
 
 if __name__ == "__main__":

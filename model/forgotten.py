@@ -15,10 +15,12 @@ import flushes
 from nodes import Facts
 from trees import Shown, Tree
 
-PARTS = ("the edited node", "the new parent", "the old parent", "what is below a moved or inserted node", "what is below a node that hides or shows",
-         "what is below a node that prunes or not", "what is below a node that sets live", "ids", "the `for` of labels", "words of the old document",
-         "words of the new document", "words below", "words above", "carriers of an id", "namers by aria-labelledby", "namers by aria-describedby",
-         "labels that name an id", "labels of fields", "what is above a marked node", "what is above a namer", "what is above a label's field")
+PARTS = ("the edited node", "the new parent", "the old parent", "what is below a moved or inserted node",
+         "what is below a node that hides or shows", "what is below a node that prunes or not",
+         "what is below a node that sets live", "ids", "the `for` of labels", "words of the old document",
+         "words of the new document", "words below", "words above", "carriers of an id", "namers by aria-labelledby",
+         "namers by aria-describedby", "labels that name an id", "labels of fields", "what is above a marked node",
+         "what is above a namer", "what is above a label's field")
 
 
 class Noticed(Exception):
@@ -120,9 +122,9 @@ class ForgetfulTold(flushes.Told):
             self.page.reach(Shown(self.page.document))
         super().flush()
         reach, kept = self.page.reach(Shown(self.page.document)), self.kept.records
-        records = {id: record if id in reach or id not in kept else kept[id]._replace(parent=record.parent) for id, record in self.tree.records.items()}
         self.kept = Tree(self.page.document)
-        self.kept.records = records
+        for id in self.kept.records.keys() & kept.keys() - reach:
+            self.kept.records[id] = kept[id]._replace(parent=self.kept.records[id].parent)
 
     def client(self, line, told):
         super().client(line, told)
