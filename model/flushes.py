@@ -213,7 +213,7 @@ class Told:
     def begin(self):
         """Before the first edit."""
         self.base, self.page.lines = self.page.lines + ['{"start":1}'], []
-        self.turns, self.lines, self.written, self.asked, self.looked = "", [], "", 0, 0
+        self.turns, self.lines, self.written, self.asked, self.looked = [], [], [], 0, 0
         self.tree = self.seen = Tree(self.page.document)
         self.moment, self.due = 0, []
 
@@ -223,15 +223,15 @@ class Told:
             self.page.edit()
         lines, self.page.lines = self.page.lines + ['{"flush":true}'], []
         self.lines += lines
-        self.turns += "P" * len(lines)
+        self.turns.append("P" * len(lines))
         before, self.tree, self.moment = self.tree, Tree(self.page.document), self.moment + 1
         self.due += ["! %d %s %d\n" % (self.moment, kind, id) for kind, id in notices(before, self.tree)]
 
     def client(self, line, told):
         self.asked += 1
-        self.turns += "C"
+        self.turns.append("C")
         self.lines.append(json.dumps(line))
-        self.written += "#%d @%d %s\n" % (self.asked, self.moment, told)
+        self.written.append("#%d @%d %s\n" % (self.asked, self.moment, told))
 
     def look(self):
         """The client takes the moment, and asks about what differs and about some more."""
@@ -255,10 +255,10 @@ class Told:
             self.client({"again": request}, self.tree.answer(request))
 
     def story(self):
-        return self.base + [json.dumps({"turns": self.turns})] + self.lines
+        return self.base + [json.dumps({"turns": "".join(self.turns)})] + self.lines
 
     def transcript(self):
-        return self.written + "end %d\n" % self.moment
+        return "".join(self.written) + "end %d\n" % self.moment
 
 
 def differing_words(old, new):
