@@ -21,7 +21,7 @@ from notices import notices
 from plays import ABOUT_AN_OBJECT
 from trees import Tree, quoted
 
-WORDS = "abcdefghijkl"
+WORDS = [letter + digit for letter in "abcdefghij" for digit in "1234"]
 SAID = ("Save", "Load", "two words", " x", "Item", "", " ", "\n", "ab", "a longer text of some words")
 SECTION_TAGS = ("div", "div", "section", "main", "ul", "span")
 TURNS_OF_A_SECTION = {
@@ -95,6 +95,15 @@ class Page(Words):
         """An element that has the attribute."""
         return self.node(lambda node: name in node.attrs)
 
+    def near(self):
+        """A node at or below an element that has an id, is a label or refers to others."""
+        id = self.bearer(self.one_of("id", "id", "for", "aria-labelledby"))
+        return self.one_of(*self.document.subtree(id)) if id != 1 else self.element()
+
+    def element_near(self):
+        id = self.near()
+        return self.document.nodes[id].parent if self.document.nodes[id].is_text() else id
+
     def references(self):
         return " ".join(self.one_of(*WORDS) for _ in self.some(1, 1, 1, 2, 3, 9))
 
@@ -105,7 +114,7 @@ class Page(Words):
         tag = self.one_of(*ITEMS)
         attrs = {name: self.one_of(*TURNS_OF_AN_ITEM[name]) for name in self.random.sample(sorted(TURNS_OF_AN_ITEM), self.one_of(0, 0, 1, 2))}
         attrs.pop("hidden", None)
-        for name, share in (("id", 0.1), ("for", 0.5 if tag == "label" else 0.02), ("aria-labelledby", 0.05), ("aria-describedby", 0.03)):
+        for name, share in (("id", 0.15), ("for", 0.7 if tag == "label" else 0.02), ("aria-labelledby", 0.1), ("aria-describedby", 0.05)):
             if self.chance(share):
                 attrs[name] = self.references() if "-" in name else self.one_of(*WORDS)
         item = self.insert(self.section(), tag=tag, **({"attrs": attrs} if attrs else {}))
@@ -146,7 +155,7 @@ class Page(Words):
         self.turn(self.section(), TURNS_OF_A_SECTION)
 
     def item_turns(self):
-        self.turn(self.element(), TURNS_OF_AN_ITEM)
+        self.turn(self.one_of(self.element(), self.element_near()), TURNS_OF_AN_ITEM)
 
     def section_shows_again(self):
         """What hides, prunes or ignores a section goes away, so that not all is hidden in the end."""
@@ -154,10 +163,12 @@ class Page(Words):
             self.do(unset=self.one_of(self.section(), self.bearer(name)), name=name)
 
     def text_changes(self):
-        self.do(text=self.node(lambda node: node.is_text()), to=self.one_of(*SAID, "%d" % self.random.randrange(1000)))
+        near = self.near()
+        id = near if self.document.nodes[near].is_text() else self.node(lambda node: node.is_text())
+        self.do(text=id, to=self.one_of(*SAID, "%d" % self.random.randrange(1000)))
 
     def move(self):
-        id, into = self.element(), self.one_of(self.section(), self.section(), self.element())
+        id, into = self.one_of(self.element(), self.element_near()), self.one_of(self.section(), self.element(), self.element_near())
         children = self.document.nodes[into].children
         self.do(move=id, into=into, **({"before": self.one_of(*children)} if children and self.chance(0.7) else {}))
 
@@ -178,7 +189,9 @@ class Page(Words):
 
     def comes_or_goes(self):
         """An item more or less, so that there are about as many as at first."""
-        if self.items() < self.wanted or self.chance(0.3):
+        if self.chance(0.3):
+            self.insert(self.element_near(), text=self.one_of(*SAID))
+        elif self.items() < self.wanted or self.chance(0.2):
             self.new_item()
         else:
             id = self.element()
