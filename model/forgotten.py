@@ -15,12 +15,10 @@ import flushes
 from nodes import Facts
 from trees import Shown, Tree
 
-PARTS = ("the edited node", "the new parent", "the old parent", "what is below a moved or inserted node",
-         "what is below a node that hides or shows", "what is below a node that prunes or not",
-         "what is below a node that sets live", "ids", "the `for` of labels", "words of the old document",
-         "words of the new document", "words below", "words above", "carriers of an id", "namers by aria-labelledby",
-         "namers by aria-describedby", "labels that name an id", "labels of fields", "what is above a marked node",
-         "what is above a namer", "what is above a label's field")
+PARTS = ("the edited node", "the old parent", "what is below a moved or inserted node", "what is below a node that hides or shows",
+         "what is below a node that prunes or not", "what is below a node that sets live", "ids", "the `for` of labels",
+         "words of the old document", "words of the new document", "words below", "words above", "carriers of an id",
+         "namers by aria-labelledby", "namers by aria-describedby", "what is above a marked node", "what is above a namer")
 
 
 class Noticed(Exception):
@@ -44,7 +42,7 @@ class ForgetfulPage(flushes.Page):
         marked, roots, before = set(), set(), self.own(id)
         if self.knows("the edited node") and id:
             marked.add(id)
-        if self.knows("the new parent") and "into" in edit:
+        if "into" in edit:
             marked.add(edit["into"])
         if self.knows("the old parent") and ("move" in edit or "remove" in edit):
             marked.add(nodes[id].parent)
@@ -92,7 +90,7 @@ class ForgetfulPage(flushes.Page):
         return (self.knows("carriers of an id") and "id" in facts.attrs and facts.own_id in self.words
                 or self.knows("namers by aria-labelledby") and bool(self.words & set(facts.labelled_by))
                 or self.knows("namers by aria-describedby") and bool(self.words & set(facts.described_by))
-                or self.knows("labels that name an id") and facts.label_for in self.words)
+                or facts.label_for in self.words)
 
     def reach(self, shown):
         """What is to be renewed. The marks are empty then."""
@@ -102,8 +100,9 @@ class ForgetfulPage(flushes.Page):
         elements = [shown.facts(id) for id, node in nodes.items() if not node.is_text()]
         reach |= self.with_above([facts.id for facts in elements if self.is_touched(facts)], "what is above a namer")
         fields = {nodes[id].attrs["id"] for id in reach if "id" in nodes[id].attrs}
-        if self.knows("labels of fields"):
-            reach |= self.with_above([facts.id for facts in elements if facts.label_for in fields], "what is above a label's field")
+        for facts in elements:
+            if facts.label_for in fields:
+                reach |= set(self.document.above(facts.id))
         self.marked, self.roots, self.words = set(), set(), set()
         return reach
 
