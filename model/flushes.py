@@ -21,7 +21,7 @@ from notices import notices
 from plays import ABOUT_AN_OBJECT
 from trees import Tree, quoted
 
-WORDS = "abcdefghijkl"
+WORDS = [letter + digit for letter in "abcdefghij" for digit in "1234"]
 SAID = ("Save", "Load", "two words", " x", "Item", "", " ", "\n", "ab", "a longer text of some words")
 SECTION_TAGS = ("div", "div", "section", "main", "ul", "span")
 TURNS_OF_A_SECTION = {
@@ -30,7 +30,8 @@ TURNS_OF_A_SECTION = {
     "title": ("Title", " "), "aria-label": ("Label", ""), "aria-live": ("polite", "off", "assertive"),
 }
 TURNS_OF_AN_ITEM = {
-    **TURNS_OF_A_SECTION, "href": ("/",), "type": ("checkbox", "submit", "hidden", "range", "text"), "value": ("v", "", "w"), "alt": ("alt", ""),
+    **TURNS_OF_A_SECTION, "href": ("/",), "value": ("v", "", "w"), "alt": ("alt", ""),
+    "type": ("checkbox", "submit", "hidden", "range", "text"),
     "aria-checked": ("true", "mixed", "false"), "aria-expanded": ("true", "false"), "aria-selected": ("true", "false"),
     "aria-pressed": ("true", "mixed"), "aria-level": ("2", "3"), "checked": ("",), "disabled": ("",), "required": ("",),
     "aria-busy": ("true",), "aria-valuetext": ("half", ""), "aria-valuenow": ("5",),
@@ -94,6 +95,15 @@ class Page(Words):
         """An element that has the attribute."""
         return self.node(lambda node: name in node.attrs)
 
+    def near(self):
+        """A node at or below an element that has an id, is a label or refers to others."""
+        id = self.bearer(self.one_of("id", "id", "for", "aria-labelledby"))
+        return self.one_of(*self.document.subtree(id)) if id != 1 else self.element()
+
+    def element_near(self):
+        id = self.near()
+        return self.document.nodes[id].parent if self.document.nodes[id].is_text() else id
+
     def references(self):
         return " ".join(self.one_of(*WORDS) for _ in self.some(1, 1, 1, 2, 3, 9))
 
@@ -104,7 +114,7 @@ class Page(Words):
         tag = self.one_of(*ITEMS)
         attrs = {name: self.one_of(*TURNS_OF_AN_ITEM[name]) for name in self.random.sample(sorted(TURNS_OF_AN_ITEM), self.one_of(0, 0, 1, 2))}
         attrs.pop("hidden", None)
-        for name, share in (("id", 0.1), ("for", 0.5 if tag == "label" else 0.02), ("aria-labelledby", 0.05), ("aria-describedby", 0.03)):
+        for name, share in (("id", 0.15), ("for", 0.7 if tag == "label" else 0.02), ("aria-labelledby", 0.1), ("aria-describedby", 0.05)):
             if self.chance(share):
                 attrs[name] = self.references() if "-" in name else self.one_of(*WORDS)
         item = self.insert(self.section(), tag=tag, **({"attrs": attrs} if attrs else {}))
@@ -145,7 +155,7 @@ class Page(Words):
         self.turn(self.section(), TURNS_OF_A_SECTION)
 
     def item_turns(self):
-        self.turn(self.element(), TURNS_OF_AN_ITEM)
+        self.turn(self.one_of(self.element(), self.element_near()), TURNS_OF_AN_ITEM)
 
     def section_shows_again(self):
         """What hides, prunes or ignores a section goes away, so that not all is hidden in the end."""
@@ -153,10 +163,12 @@ class Page(Words):
             self.do(unset=self.one_of(self.section(), self.bearer(name)), name=name)
 
     def text_changes(self):
-        self.do(text=self.node(lambda node: node.is_text()), to=self.one_of(*SAID, "%d" % self.random.randrange(1000)))
+        near = self.near()
+        id = near if self.document.nodes[near].is_text() else self.node(lambda node: node.is_text())
+        self.do(text=id, to=self.one_of(*SAID, "%d" % self.random.randrange(1000)))
 
     def move(self):
-        id, into = self.element(), self.one_of(self.section(), self.section(), self.element())
+        id, into = self.one_of(self.element(), self.element_near()), self.one_of(self.section(), self.element(), self.element_near())
         children = self.document.nodes[into].children
         self.do(move=id, into=into, **({"before": self.one_of(*children)} if children and self.chance(0.7) else {}))
 
@@ -177,7 +189,9 @@ class Page(Words):
 
     def comes_or_goes(self):
         """An item more or less, so that there are about as many as at first."""
-        if self.items() < self.wanted or self.chance(0.3):
+        if self.chance(0.3):
+            self.insert(self.element_near(), text=self.one_of(*SAID))
+        elif self.items() < self.wanted or self.chance(0.2):
             self.new_item()
         else:
             id = self.element()
@@ -207,8 +221,12 @@ class Told:
 
     def __init__(self, seed):
         self.page = Page(seed)
+        self.begin()
+
+    def begin(self):
+        """Before the first edit."""
         self.base, self.page.lines = self.page.lines + ['{"start":1}'], []
-        self.turns, self.lines, self.written, self.asked, self.looked = "", [], "", 0, 0
+        self.turns, self.lines, self.written, self.asked, self.looked = [], [], [], 0, 0
         self.tree = self.seen = Tree(self.page.document)
         self.moment, self.due = 0, []
 
@@ -218,15 +236,15 @@ class Told:
             self.page.edit()
         lines, self.page.lines = self.page.lines + ['{"flush":true}'], []
         self.lines += lines
-        self.turns += "P" * len(lines)
+        self.turns.append("P" * len(lines))
         before, self.tree, self.moment = self.tree, Tree(self.page.document), self.moment + 1
         self.due += ["! %d %s %d\n" % (self.moment, kind, id) for kind, id in notices(before, self.tree)]
 
     def client(self, line, told):
         self.asked += 1
-        self.turns += "C"
+        self.turns.append("C")
         self.lines.append(json.dumps(line))
-        self.written += "#%d @%d %s\n" % (self.asked, self.moment, told)
+        self.written.append("#%d @%d %s\n" % (self.asked, self.moment, told))
 
     def look(self):
         """The client takes the moment, and asks about what differs and about some more."""
@@ -250,10 +268,10 @@ class Told:
             self.client({"again": request}, self.tree.answer(request))
 
     def story(self):
-        return self.base + [json.dumps({"turns": self.turns})] + self.lines
+        return self.base + [json.dumps({"turns": "".join(self.turns)})] + self.lines
 
     def transcript(self):
-        return self.written + "end %d\n" % self.moment
+        return "".join(self.written) + "end %d\n" % self.moment
 
 
 def differing_words(old, new):
@@ -300,7 +318,7 @@ def main():
         told = made("%d-%d" % (seed, stories), min(FLUSHES_OF_A_STORY, wanted - flushes))
         compare(sys.argv[1], "%d-%d" % (seed, stories), told)
         stories, flushes, looked, asked = stories + 1, flushes + told.moment, looked + told.looked, asked + told.asked
-    print("flushes: %d of %d stories as the model has them, at %d moments of which the client asked; %d client lines" % (flushes, stories, looked, asked))
+    print("flushes: %d of %d stories as the model has them; the client asked at %d moments, in %d lines" % (flushes, stories, looked, asked))
 
 
 if __name__ == "__main__":

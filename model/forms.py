@@ -10,6 +10,7 @@ from searches import KEYS
 DEEPEST = 127
 GREATEST_ID, GREATEST_MOMENT, GREATEST_OFFSET = (1 << 31) - 1, (1 << 30) - 1, (1 << 32) - 1
 EDGE, LONGEST_RUN, MOST_CHILDREN, MOST_FOUND, MOST_KEYS, LONGEST_SOUGHT = 1 << 20, 65536, 65536, 100, 8, 4096
+LONGEST_NUMBER = 400
 BRACKETS = re.compile(r'"(?:[^"\\]|\\.)*"|[\[\]{}]')
 
 
@@ -24,7 +25,9 @@ class NoForm(ValueError):
 # Reading.
 
 def number(text):
-    """A number in digits, of which only those of 64 bits are whole; others are read as fractions are."""
+    """A number in digits, of which only those of 64 bits are whole; others are read as fractions are, and the greatest not at all."""
+    if len(text) > LONGEST_NUMBER:
+        raise NoJson
     return int(text) if text != "-0" and len(text) < 20 else fraction(text)
 
 

@@ -4,7 +4,7 @@ Written from docs/STORY_FORMAT.md alone, sections 7 to 9.
 """
 import re
 
-from texts import WHITE, is_blank, lowered, tokens
+from texts import LONGEST_NAME, WHITE, flat, is_blank, lowered, tokens
 
 ROOT = 1
 ROLES = set("""alert alertdialog application article banner blockquote button caption cell checkbox code columnheader
@@ -35,13 +35,13 @@ MOST_REFERENCES = 8
 
 
 class Facts:
-    """What the rules say of a node by itself. For a text only the first two are given, and it hides and prunes nothing."""
+    """What the rules say of a node by itself. A text has a role and a name; it may be ignored, and hides and prunes nothing."""
 
     def __init__(self, id, node):
         self.id, self.tag, self.attrs = id, node.tag, node.attrs
         self.is_text, self.hides, self.prunes, self.is_block, self.own_live = node.is_text(), False, False, False, None
         if self.is_text:
-            self.role, self.is_ignored = "text", is_blank(node.text)
+            self.role, self.is_ignored, self.name = "text", is_blank(node.text), flat(node.text)[:LONGEST_NAME]
             return
         self.role = self.found_role()
         self.hides, self.is_ignored = id != ROOT and self.finds_hidden(), id != ROOT and self.finds_ignored()

@@ -105,9 +105,10 @@ def main():
     if len(sys.argv) < 2:
         sys.exit(__doc__)
     seed, seconds = int(sys.argv[2]) if len(sys.argv) > 2 else 1, float(sys.argv[3]) if len(sys.argv) > 3 else 60.0
-    program, maker, end = sys.argv[1], ThreadedMaker(seed), time.monotonic() + seconds
+    program, maker = sys.argv[1], ThreadedMaker(seed)
     refused = try_refused(program, Maker(seed), 300)
     stories = different = several = 0
+    end = time.monotonic() + seconds
     while time.monotonic() < end:
         lines, story = next_story(maker, stories)
         texts = runs(program, lines, story)

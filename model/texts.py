@@ -5,6 +5,7 @@ Written from docs/STORY_FORMAT.md alone, sections 6, 7 and 9.
 import re
 
 WHITE = " \t\n\f\r"
+LONGEST_NAME = 512
 TOKEN = re.compile("[^%s]+" % WHITE)
 
 
@@ -19,7 +20,7 @@ def flat(text):
 
 
 def is_blank(text):
-    return TOKEN.search(text) is None
+    return not text or TOKEN.search(text) is None
 
 
 def lowered(text):

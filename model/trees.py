@@ -8,9 +8,8 @@ import hits
 import markers
 import searches
 from nodes import NAMED_FROM_CONTENT, NAMELESS, ROOT, Facts
-from texts import first_said, flat, least_holding, quoted
+from texts import LONGEST_NAME, first_said, flat, least_holding, quoted
 
-LONGEST = 512
 MOST_CHILDREN = 256
 Record = collections.namedtuple("Record", "parent role name description value states level live frame kids text runs")
 
@@ -88,6 +87,8 @@ class Shown:
         return flat(self.said(id, hiding=id not in self.hidden))
 
     def references(self, words):
+        if not words:
+            return ""
         targets = [self.target(word) for word in words]
         said = [self.said_as_target(target) for target in targets if target is not None]
         return " ".join(text for text in said if text)
@@ -109,18 +110,17 @@ class Shown:
         own = first_said([self.references(facts.labelled_by), facts.label, self.host_label(facts)])
         if not own and facts.role in NAMED_FROM_CONTENT:
             own = first_said([self.joined(facts.id, True, True)])
-        return (flat(own)[:LONGEST], False) if own else (flat(facts.title)[:LONGEST], True)
+        return (flat(own)[:LONGEST_NAME], False) if own else (flat(facts.title)[:LONGEST_NAME], True)
 
     def record(self, id, parent):
         """All that is told of an object."""
         node, facts, kids = self.nodes[id], self.facts(id), tuple(self.kids[id])
         live, frame = self.live[id], tuple(self.frame(id))
         if facts.is_text:
-            name = flat(node.text)[:LONGEST]
-            return Record(parent, "text", name, "", None, (), None, live, frame, kids, node.text, node.runs)
+            return Record(parent, "text", facts.name, "", None, (), None, live, frame, kids, node.text, node.runs)
         name, by_title = self.name_and_source(facts)
         description = first_said([self.references(facts.described_by), "" if by_title else facts.title])
-        description = flat(description)[:LONGEST]
+        description = flat(description)[:LONGEST_NAME]
         return Record(parent, facts.role, name, description, facts.value, tuple(facts.states), facts.level, live, frame, kids, None, None)
 
 
