@@ -5,7 +5,7 @@
 // for one node of the page as long as that lives. `focus` is a key, or 0. `left` lists what the format of stories cannot hold,
 // as [kind, key, name]. docs/BROWSERS.md says what is left out, and how.
 (() => {
-  const ROOT = 1, MOST_LEVELS = 64, MOST_VALUE_BYTES = 4096, MOST_CHARACTERS = 65536, FARTHEST = 1048576;
+  const FRAMES_OF_REST = 24, ROOT = 1, MOST_LEVELS = 64, MOST_VALUE_BYTES = 4096, MOST_CHARACTERS = 65536, FARTHEST = 1048576;
   const NAME = /^[a-z][a-z0-9_:.-]{0,63}$/, TAG = /^[a-z][a-z0-9-]{0,31}$/;
   const SCRIPTS = new Set(["script", "style", "template", "noscript"]);
   const WORDS_OF_DISPLAY = new Set(["none", "block", "inline"]);
@@ -214,15 +214,15 @@
 
   // The frames.
 
-  let told, is_on = false;
+  let told, is_on = false, unchanged = 0;
 
   function next_frame() {
     if (!is_on) return;
     const now = snapshot();
-    if (now !== told) {
-      told = now;
-      tell_frame(now);
-    }
+    unchanged = now === told ? unchanged + 1 : 0;
+    if (!unchanged) tell_frame(now);
+    if (unchanged === FRAMES_OF_REST) tell_frame("");
+    told = now;
     requestAnimationFrame(next_frame);
   }
 
@@ -231,6 +231,10 @@
       is_on = true;
       requestAnimationFrame(next_frame);
       return told = snapshot();
+    },
+    // From here on the frames are counted in which nothing changes; after enough of them an empty frame is told.
+    watch() {
+      unchanged = 0;
     },
     // Ends the recording, with the last snapshot, or an empty text where nothing changed since one was told.
     end() {
