@@ -32,7 +32,7 @@ class Theirs(Seen):
         role = told["role"]["value"]
         super().__init__(ROLES.get(role, role), flat(told.get("name", {}).get("value", "")))
         self.is_ignored = told["ignored"]
-        self.why_ignored = [each["name"] for each in told.get("ignoredReasons", [])]
+        self.why_ignored = {each["name"] for each in told.get("ignoredReasons", [])}
         self.names_from = [each["type"] for each in told.get("name", {}).get("sources", []) if "value" in each and not each.get("superseded")]
 
 
@@ -60,7 +60,8 @@ class Difference:
 
     def told(self):
         here, there = ("nothing" if it is None else "%s %s" % (it.role, json.dumps(it.name, ensure_ascii=False)) for it in (self.ours, self.theirs))
-        return "%s: %s; Chromium: %s: %s" % (self.number or "-", here, there, self.reason or "no reason is known")
+        unknown = " ".join(["no reason is known"] + list(self.theirs.why_ignored if self.theirs else ()))
+        return "%s: %s; Chromium: %s: %s" % (self.number or "-", here, there, self.reason or unknown)
 
 
 def their_tree(recording):

@@ -9,7 +9,8 @@ from model import flat
 TAGS = "main article button nav p h1 h2 h3 h4 h5 h6 a img ul ol li table tr td th textarea input".split()
 PRUNING = "button checkbox img option progressbar radio slider switch tab".split()
 NAMELESS = "caption code emphasis generic none paragraph strong".split()
-INERT = {"activeModalDialog", "inertElement", "inertSubtree"}
+# Chromium's own words for why it shows no object.
+INERT, LABELS = {"activeModalDialog", "inertElement", "inertSubtree"}, {"labelFor", "labelContainer"}
 
 
 def is_only_theirs(it):
@@ -97,6 +98,11 @@ def inert(it):
     return is_only_ours(it) and it.theirs is not None and bool(INERT & set(it.theirs.why_ignored))
 
 
+def label_text(it):
+    """Of a label's text, which Chromium leaves to the box that it labels."""
+    return is_only_ours(it) and it.theirs is not None and bool(LABELS & set(it.theirs.why_ignored))
+
+
 def empty(it):
     """Of an element without kids or a name."""
     return is_only_ours(it) and is_element(it) and not it.ours.name and it.number not in it.page.parents
@@ -126,7 +132,7 @@ def references(it):
 
 DEPARTURES = [
     ("no node", no_node), ("title", title), ("pruned", pruned), ("blank", blank), ("visibility", visibility), ("inert", inert),
-    ("table", layout_table), ("anchor", anchor), ("tag", tag), ("input", input_type), ("listitem", list_item), ("empty", empty), ("inline", inline),
+    ("table", layout_table), ("anchor", anchor), ("tag", tag), ("input", input_type), ("listitem", list_item), ("label text", label_text), ("empty", empty), ("inline", inline),
     ("row", row), ("menuitem", menu_choice), ("nameless", name_not_taken), ("label", host_label), ("cut", cut), ("references", references),
 ]
 

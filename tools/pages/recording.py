@@ -190,9 +190,8 @@ class Recording:
             return
         self.heard_at, focus = self.flushes, self.focused_object()
         asked = [{"q": "focus"}] + [{"q": word, "id": focus} for word in ("role", "name", "description", "states", "value") if focus]
-        told = self.write(([{"until": self.flushes}] if self.flushes else []) + [{"await": self.flushes}])
-        if told:
-            self.write([{"again": request} for request in asked] + ([{"notices": True}] if self.flushes else []))
+        waits = [{"until": self.flushes}, {"await": self.flushes}] if self.flushes else []
+        self.write(waits + [{"again": request} for request in asked] + ([{"notices": True}] if self.flushes else []))
 
     def focused_object(self):
         """The object with the focus, by the second model; None without one."""

@@ -4,8 +4,9 @@
     tools/pages/tests.py PROGRAM
 
 PROGRAM is an axcore program. Random documents are led from one to the next, and the recorded stories of examples/pages are
-compared with the second model and shown. Where Chromium is there, pages are recorded and compared as well, three plain ones and some that
-are meant to do harm; where it isn't, the last line says that they were left out. It ends with status 1 if a test fails.
+compared with the second model and shown. Where Chromium is there, pages are recorded as well: three plain ones, which are also
+compared, and some that are meant to do harm. Where it isn't, a line says that they were left out. It ends with status 1 if a
+test fails.
 """
 import glob
 import json
@@ -247,9 +248,9 @@ DOUBLE = '<!doctype html><body><p id=a>First</p><p id=a>Second</p><div role=grou
 ENDLESS = "<!doctype html><body><p>0</p><script>let n = 0; setInterval(() => document.querySelector('p').textContent = ++n, 5)</script>"
 BIDI = '<!doctype html><meta charset="utf-8"><body style="width:200px"><p dir=rtl>שלום עולם, זה טקסט ארוך למדי abc 123</p><p>e\u0301 a\u0308 \U0001F44D\U0001F3FD z</p>'
 SHADOW = "<!doctype html><body><div id=a>Light</div><script>document.getElementById('a').attachShadow({mode: 'open'}).innerHTML = '<p>Dark</p>'</script>"
-BACK = """<!doctype html><body><p id=a>A</p><script>
+BACK = """<!doctype html><body><button id=b>Turn</button><p id=a>A</p><script>
 const a = document.getElementById("a");
-requestAnimationFrame(() => setTimeout(() => { a.remove(); setTimeout(() => document.body.append(a), 700); }, 700));
+document.getElementById("b").addEventListener("click", () => { if (a.isConnected) a.remove(); else document.body.append(a); });
 </script>"""
 
 # Pages that are meant to do harm: the page, words, what the report says, and what the tree has.
@@ -261,7 +262,6 @@ HOSTILE = {
     "endless": (ENDLESS, ["--flushes", "7"], "7 flushes", ["end 7"]),
     "bidi": (BIDI, [], "recorded:", ["שלום", "e\u0301 a\u0308 \U0001F44D\U0001F3FD z"]),
     "shadow": (SHADOW, [], "left out: 1 shadow trees", ['text "Light"']),
-    "back": (BACK, [], "2 flushes", ['text "A"']),
     "empty": ("", [], "recorded: 2 nodes, 0 flushes", ['1 0 document ""']),
 }
 
@@ -276,6 +276,16 @@ def test_hostile_pages(program, folder):
         inserted = re.findall('^{"insert":([0-9]+),', story, re.M)
         expect("the numbers of %s" % name, len(inserted) == len(set(inserted)))
     print("hostile pages: %d recorded" % len(HOSTILE))
+
+
+def test_back(program, folder):
+    """A node that goes and comes back is a new one."""
+    script = folder.file("back.do", '[{"click":"#b"},{"click":"#b"}]')
+    story, report, status = run_tool("record", "--do", script, folder.file("page.html", BACK))
+    numbers = re.findall('^{"insert":([0-9]+),.*"text":"A"', story, re.M)
+    expect("back is recorded", status == 0 and len(set(numbers)) == 2, report)
+    expect_accepted("back", program, story)
+    expect("the tree of back", re.search('^%s [0-9]+ text "A"$' % (numbers or [0])[-1], written(program, "dump", story)[0], re.M))
 
 
 def test_refusals(folder):
@@ -302,6 +312,7 @@ def main():
         else:
             test_plain_pages(program, folder)
             test_hostile_pages(program, folder)
+            test_back(program, folder)
             test_refusals(folder)
     print("tools for pages: %s" % ("%d failed" % len(FAILURES) if FAILURES else "everything passed"))
     sys.exit(1 if FAILURES else 0)
