@@ -20,6 +20,9 @@ class Seen:
     def __init__(self, role, name):
         self.role, self.name = role, name
 
+    def told(self):
+        return "%s %s" % (self.role, json.dumps(self.name, ensure_ascii=False))
+
     def is_shown(self):
         """Whether it counts as an object: a generic one without a name is as if it were not there."""
         return not self.is_ignored and not (self.role in ("generic", "none") and not self.name)
@@ -33,7 +36,8 @@ class Theirs(Seen):
         super().__init__(ROLES.get(role, role), flat(told.get("name", {}).get("value", "")))
         self.is_ignored = told["ignored"]
         self.why_ignored = {each["name"] for each in told.get("ignoredReasons", [])}
-        self.names_from = [each["type"] for each in told.get("name", {}).get("sources", []) if "value" in each and not each.get("superseded")]
+        sources = told.get("name", {}).get("sources", [])
+        self.names_from = {each["type"] for each in sources if "value" in each and not each.get("superseded")}
 
 
 class Page:
@@ -59,7 +63,7 @@ class Difference:
         self.reason = reason(self)
 
     def told(self):
-        here, there = ("nothing" if it is None else "%s %s" % (it.role, json.dumps(it.name, ensure_ascii=False)) for it in (self.ours, self.theirs))
+        here, there = ("nothing" if it is None else it.told() for it in (self.ours, self.theirs))
         unknown = " ".join(["no reason is known"] + list(self.theirs.why_ignored if self.theirs else ()))
         return "%s: %s; Chromium: %s: %s" % (self.number or "-", here, there, self.reason or unknown)
 
@@ -91,8 +95,8 @@ def keys_of(recording, objects):
     """The recorder's keys of nodes that Chromium names as objects."""
     if not objects:
         return []
-    answer = recording.browser.call("Runtime.callFunctionOn", functionDeclaration="(...nodes) => recorder.keys_of(...nodes)",
-                                    executionContextId=recording.context, arguments=[{"objectId": each} for each in objects], returnByValue=True)
+    words = {"functionDeclaration": "(...nodes) => recorder.keys_of(...nodes)", "arguments": [{"objectId": each} for each in objects]}
+    answer = recording.browser.call("Runtime.callFunctionOn", executionContextId=recording.context, returnByValue=True, **words)
     return answer["result"]["value"]
 
 
@@ -129,7 +133,8 @@ def totals(alike, differences):
     """One line that counts what was compared."""
     explained = sum(1 for each in differences if each.reason)
     both = [each for each in differences if each.ours and each.theirs and each.theirs.is_shown()]
-    roles = sum(1 for each in both if each.ours.role == each.theirs.role)
-    names = sum(1 for each in both if each.ours.name == each.theirs.name)
-    return "in both trees %d: %d with the same role, %d with the same name; alike %d, different %d: %d by the profile, %d for no known reason" % (
-        alike + len(both), alike + roles, alike + names, alike, len(differences), explained, len(differences) - explained)
+    roles = alike + sum(1 for each in both if each.ours.role == each.theirs.role)
+    names = alike + sum(1 for each in both if each.ours.name == each.theirs.name)
+    shared = "in both trees %d: %d with the same role, %d with the same name" % (alike + len(both), roles, names)
+    counted = (alike, len(differences), explained, len(differences) - explained)
+    return shared + "; alike %d, different %d: %d by the profile, %d for no known reason" % counted

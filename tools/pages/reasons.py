@@ -10,7 +10,7 @@ TAGS = "main article button nav p h1 h2 h3 h4 h5 h6 a img ul ol li table tr td t
 PRUNING = "button checkbox img option progressbar radio slider switch tab".split()
 NAMELESS = "caption code emphasis generic none paragraph strong".split()
 # Chromium's own words for why it shows no object.
-INERT, LABELS = {"activeModalDialog", "inertElement", "inertSubtree"}, {"labelFor", "labelContainer"}
+INERT = {"activeModalDialog", "inertElement", "inertSubtree"}
 
 
 def is_only_theirs(it):
@@ -51,7 +51,8 @@ def title(it):
 
 
 def pruned(it):
-    return is_only_theirs(it) and any(each in it.page.ours and it.page.ours[each].role in PRUNING for each in it.page.document.above(it.number))
+    above = (it.page.ours.get(each) for each in it.page.document.above(it.number))
+    return is_only_theirs(it) and any(each is not None and each.role in PRUNING for each in above)
 
 
 def blank(it):
@@ -100,7 +101,8 @@ def inert(it):
 
 def label_text(it):
     """Of a label's text, which Chromium leaves to the box that it labels."""
-    return is_only_ours(it) and it.theirs is not None and bool(LABELS & set(it.theirs.why_ignored))
+    above = (it.page.document.nodes[each] for each in it.page.document.above(it.number))
+    return is_only_ours(it) and is_text(it) and any(each.tag == "label" for each in above)
 
 
 def empty(it):
@@ -132,8 +134,9 @@ def references(it):
 
 DEPARTURES = [
     ("no node", no_node), ("title", title), ("pruned", pruned), ("blank", blank), ("visibility", visibility), ("inert", inert),
-    ("table", layout_table), ("anchor", anchor), ("tag", tag), ("input", input_type), ("listitem", list_item), ("label text", label_text), ("empty", empty), ("inline", inline),
-    ("row", row), ("menuitem", menu_choice), ("nameless", name_not_taken), ("label", host_label), ("cut", cut), ("references", references),
+    ("table", layout_table), ("anchor", anchor), ("tag", tag), ("input", input_type), ("listitem", list_item),
+    ("label text", label_text), ("empty", empty), ("inline", inline), ("row", row), ("menuitem", menu_choice),
+    ("nameless", name_not_taken), ("label", host_label), ("cut", cut), ("references", references),
 ]
 
 

@@ -128,7 +128,8 @@
     const boxes = Array.from(range.getClientRects());
     if (!boxes.length) return [];
     const across = is_across(node), from = [boxes[0].left, boxes[0].top];
-    const shape = JSON.stringify([across, boxes.map(box => [box.left - from[0], box.top - from[1], box.width, box.height].map(it => Math.round(it * 8)))]);
+    const told = boxes.map(box => [box.left - from[0], box.top - from[1], box.width, box.height].map(it => Math.round(it * 8)));
+    const shape = JSON.stringify([across, told]);
     const known = known_lines.get(node);
     if (known && known.data === node.data && known.shape === shape) {
       const x = from[0] - known.from[0], y = from[1] - known.from[1];
@@ -153,7 +154,8 @@
     for (const piece of pieces_of(node)) {
       const [first, past, left, top, right, bottom] = piece, around = lines_around(node), across = is_across(node);
       const box = {left, top, right, bottom};
-      if (!line || line.around !== around || !is_beside(line.piece, box, across)) line = {number: line ? line.number + 1 : 0, around, piece: piece.slice()};
+      const is_new = !line || line.around !== around || !is_beside(line.piece, box, across);
+      if (is_new) line = {number: line ? line.number + 1 : 0, around, piece: piece.slice()};
       else widen(line.piece, box);
       runs.push([first, past, line.number, ...rectangle(left, top, right, bottom, node)]);
     }

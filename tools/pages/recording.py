@@ -11,7 +11,7 @@ from model import Document, Tree, is_edit
 from script import Hands
 
 WORLD = "axcore"
-REST, LONGEST_STEP, LOADING = 0.4, 10, 60
+REST, GOING, LONGEST_STEP, LOADING = 0.4, 0.5, 10, 60
 MOST_FLUSHES, MOST_BYTES = 65535, 16777216
 HERE = os.path.dirname(os.path.abspath(__file__))
 HOSTS = ("localhost", "127.0.0.1", "::1")
@@ -72,7 +72,10 @@ class Recording:
         while not self.is_loaded and time.monotonic() < end:
             browser.receive(end - time.monotonic())
         self.enter()
-        self.write_base(json.loads(self.evaluate("recorder.begin()")))
+        told = self.evaluate("recorder.begin()")
+        if not told:
+            raise Trouble("the page gave way to another before it could be recorded")
+        self.write_base(json.loads(told))
 
     def write_base(self, snapshot):
         """Writes the document of moment 0, and the start."""
@@ -94,7 +97,14 @@ class Recording:
             self.evaluate(file.read())
 
     def evaluate(self, expression):
-        answer = self.browser.call("Runtime.evaluate", expression=expression, contextId=self.context, returnByValue=True)
+        """What an expression gives in the recorder's world; None where the page gave way to another."""
+        sent = self.browser.send("Runtime.evaluate", expression=expression, contextId=self.context, returnByValue=True)
+        answer = self.browser.answers([sent]).get(sent)
+        if answer is None:
+            self.browser.listen(GOING)
+            if self.is_gone:
+                return None
+            raise Trouble("Chromium refuses to evaluate in the page")
         if "exceptionDetails" in answer:
             raise Trouble("the recorder fails in this page: %s" % answer["exceptionDetails"].get("exception", {}).get("description"))
         return answer["result"].get("value")

@@ -246,8 +246,10 @@ LONG = '<!doctype html><body><p title="%s" lang="en">A</p>' % ("x" * 10000)
 CUSTOM = "<!doctype html><body><tea-pot role=button>Pour</tea-pot><tea_pot><b>Kept</b></tea_pot><p @click=x>B</p>"
 DOUBLE = '<!doctype html><body><p id=a>First</p><p id=a>Second</p><div role=group aria-labelledby=a>C</div>'
 ENDLESS = "<!doctype html><body><p>0</p><script>let n = 0; setInterval(() => document.querySelector('p').textContent = ++n, 5)</script>"
-BIDI = '<!doctype html><meta charset="utf-8"><body style="width:200px"><p dir=rtl>שלום עולם, זה טקסט ארוך למדי abc 123</p><p>e\u0301 a\u0308 \U0001F44D\U0001F3FD z</p>'
-SHADOW = "<!doctype html><body><div id=a>Light</div><script>document.getElementById('a').attachShadow({mode: 'open'}).innerHTML = '<p>Dark</p>'</script>"
+BIDI = """<!doctype html><meta charset="utf-8"><body style="width:200px"><p dir=rtl>שלום עולם, זה טקסט ארוך למדי abc 123</p>
+<p>e\u0301 a\u0308 \U0001F44D\U0001F3FD z</p>"""
+SHADOW = """<!doctype html><body><div id=a>Light</div>
+<script>document.getElementById("a").attachShadow({mode: "open"}).innerHTML = "<p>Dark</p>"</script>"""
 BACK = """<!doctype html><body><button id=b>Turn</button><p id=a>A</p><script>
 const a = document.getElementById("a");
 document.getElementById("b").addEventListener("click", () => { if (a.isConnected) a.remove(); else document.body.append(a); });
@@ -288,11 +290,21 @@ def test_back(program, folder):
     expect("the tree of back", re.search('^%s [0-9]+ text "A"$' % (numbers or [0])[-1], written(program, "dump", story)[0], re.M))
 
 
+def test_leaving(program, folder):
+    """A page that gives way to another ends the recording, with what was recorded by then."""
+    folder.file("other.html", "<!doctype html><body><p>Other</p>")
+    script = folder.file("leave.do", '[{"click":"a"},{"click":"a"}]')
+    story, report, status = run_tool("record", "--do", script, folder.file("page.html", '<!doctype html><body><a href="other.html">Go</a>'))
+    expect("leaving is recorded", status == 0 and "ended: the page gave way to another" in report, report)
+    expect_accepted("leaving", program, story)
+    expect("the tree of leaving", 'link "Go"' in written(program, "dump", story)[0])
+
+
 def test_refusals(folder):
     """Each is one sentence with status 1."""
     page = folder.file("page.html", "<!doctype html><body><p>A</p>")
-    for words in (["/no/such/page"], ["http://example.org/"], ["--do", "/no/such/script", page], ["--do", folder.file("a", '[{"jump":1}]'), page],
-                  ["--do", folder.file("b", '[{"click":"#none"}]'), page]):
+    scripts = ["/no/such/script", folder.file("a", '[{"jump":1}]'), folder.file("b", '[{"click":"#none"}]')]
+    for words in [["/no/such/page"], ["http://example.org/"]] + [["--do", script, page] for script in scripts]:
         story, trouble, status = run_tool("record", *words)
         expect("a refusal: %s" % words, (story, status, trouble.count("\n")) == ("", 1, 1), trouble)
 
@@ -313,6 +325,7 @@ def main():
             test_plain_pages(program, folder)
             test_hostile_pages(program, folder)
             test_back(program, folder)
+            test_leaving(program, folder)
             test_refusals(folder)
     print("tools for pages: %s" % ("%d failed" % len(FAILURES) if FAILURES else "everything passed"))
     sys.exit(1 if FAILURES else 0)
