@@ -95,7 +95,6 @@
 {"frame":68,"rect":[20,457,984,19]}
 {"runs":69,"list":[[0,123,9,20,457,982,19]]}
 {"start":1}
-{"await":0}
 {"again":{"q":"focus"}}
 {"set":17,"name":"class","value":"ui-accordion-header ui-corner-top ui-accordion-header-collapsed ui-corner-all ui-state-default ui-accordion-icons ui-state-hover"}
 {"flush":true}

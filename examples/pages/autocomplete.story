@@ -33,7 +33,6 @@
 {"frame":18,"rect":[20,115,984,19]}
 {"runs":19,"list":[[0,92,3,20,115,739,19]]}
 {"start":1}
-{"await":0}
 {"again":{"q":"focus"}}
 {"insert":22,"into":3,"tag":"ul","attrs":{"id":"ui-id-1","tabindex":"0","class":"ui-menu ui-widget ui-widget-content ui-autocomplete ui-front","unselectable":"on","style":"display: none;","display":"none"}}
 {"insert":23,"into":3,"tag":"div","attrs":{"role":"status","aria-live":"assertive","aria-relevant":"additions","class":"ui-helper-hidden-accessible","display":"block"}}

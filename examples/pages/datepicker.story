@@ -24,7 +24,6 @@
 {"frame":11,"rect":[20,81,984,57]}
 {"runs":12,"list":[[0,126,1,20,81,963,19],[126,251,2,20,100,952,19],[251,306,3,20,119,442,19]]}
 {"start":1}
-{"await":0}
 {"again":{"q":"focus"}}
 {"insert":16,"into":15,"tag":"div","attrs":{"class":"ui-datepicker-header ui-widget-header ui-helper-clearfix ui-corner-all","display":"block"}}
 {"insert":17,"into":16,"tag":"a","attrs":{"class":"ui-datepicker-prev ui-corner-all","data-handler":"prev","data-event":"click","title":"Prev","display":"block"}}

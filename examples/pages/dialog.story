@@ -137,7 +137,6 @@
 {"runs":85,"list":[[0,7,14,751,496,55,15]]}
 {"runs":86,"list":[[0,8,14,806,493,61,19]]}
 {"start":1}
-{"await":0}
 {"again":{"q":"focus"}}
 {"insert":89,"into":3,"tag":"div","attrs":{"tabindex":"-1","role":"dialog","class":"ui-dialog ui-corner-all ui-widget ui-widget-content ui-front ui-dialog-buttons ui-draggable ui-resizable","aria-describedby":"dialog-form","aria-labelledby":"ui-id-1","style":"display: none; position: absolute;","display":"none"}}
 {"insert":90,"into":89,"tag":"div","attrs":{"class":"ui-dialog-titlebar ui-corner-all ui-widget-header ui-helper-clearfix ui-draggable-handle","display":"block"}}

@@ -166,7 +166,6 @@
 {"frame":98,"rect":[20,402,984,38]}
 {"runs":99,"list":[[0,117,18,20,402,957,19],[117,210,19,20,421,759,19]]}
 {"start":1}
-{"await":0}
 {"again":{"q":"focus"}}
 {"insert":102,"into":20,"before":21,"tag":"span","attrs":{"class":"ui-menu-icon ui-icon ui-icon-caret-1-e","display":"block"}}
 {"insert":103,"into":44,"before":45,"tag":"span","attrs":{"class":"ui-menu-icon ui-icon ui-icon-caret-1-e","display":"block"}}

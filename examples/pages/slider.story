@@ -19,7 +19,6 @@
 {"frame":9,"rect":[20,36,984,19]}
 {"runs":10,"list":[[0,115,0,20,36,932,19]]}
 {"start":1}
-{"await":0}
 {"again":{"q":"focus"}}
 {"insert":13,"into":5,"tag":"span","attrs":{"tabindex":"0","class":"ui-slider-handle ui-corner-all ui-state-default","style":"left: 0%;","display":"block"}}
 {"set":1,"name":"class","value":""}

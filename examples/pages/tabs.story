@@ -77,7 +77,6 @@
 {"frame":46,"rect":[20,561,984,19]}
 {"runs":47,"list":[[0,72,23,20,561,570,19]]}
 {"start":1}
-{"await":0}
 {"again":{"q":"focus"}}
 {"set":1,"name":"class","value":""}
 {"frame":1,"rect":[0,0,1024,302]}

@@ -13,7 +13,7 @@ except ImportError:
     websocket = None
 
 WIDTH, HEIGHT = 1024, 768
-START_SECONDS, ANSWER_SECONDS = 30, 30
+START_SECONDS, ANSWER_SECONDS = 60, 60
 # Names of other machines have no address, so that a page reaches nothing but this machine.
 THIS_MACHINE_ALONE = "MAP * ~NOTFOUND, EXCLUDE localhost, EXCLUDE 127.0.0.1, EXCLUDE [::1]"
 

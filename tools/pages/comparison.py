@@ -1,17 +1,15 @@
 """Compares the tree of a recorded page with Chromium's own."""
 import json
-import re
 import subprocess
 
 from browser import Trouble
-from model import Document, Shown, flat
+from model import Document, dumped_objects, flat, is_edit
 from reasons import reason
 
 # Chromium's words for roles that ARIA calls otherwise.
 ROLES = {"RootWebArea": "document", "StaticText": "text", "image": "img"}
 # What Chromium shows of a text by line, which no tree of roles and names has.
 PARTS_OF_TEXTS = ("InlineTextBox",)
-OBJECT = re.compile(r'(\d+) (\d+) (\S+) (".*")')
 
 
 class Seen:
@@ -21,6 +19,9 @@ class Seen:
 
     def __init__(self, role, name):
         self.role, self.name = role, name
+
+    def told(self):
+        return "%s %s" % (self.role, json.dumps(self.name, ensure_ascii=False))
 
     def is_shown(self):
         """Whether it counts as an object: a generic one without a name is as if it were not there."""
@@ -34,20 +35,37 @@ class Theirs(Seen):
         role = told["role"]["value"]
         super().__init__(ROLES.get(role, role), flat(told.get("name", {}).get("value", "")))
         self.is_ignored = told["ignored"]
-        self.why_ignored = [each["name"] for each in told.get("ignoredReasons", [])]
-        self.names_from = [each["type"] for each in told.get("name", {}).get("sources", []) if "value" in each and not each.get("superseded")]
+        self.why_ignored = {each["name"] for each in told.get("ignoredReasons", [])}
+        sources = told.get("name", {}).get("sources", [])
+        self.names_from = {each["type"] for each in sources if "value" in each and not each.get("superseded")}
+
+
+class Page:
+    """What the reasons for differences are looked up in: our tree, which of its objects have kids, the story's last document, and
+    the nodes that `visibility` hides."""
+
+    def __init__(self, recording, program):
+        self.ours, self.parents = our_tree(recording.text(), program)
+        self.document = Document()
+        for line in map(json.loads, recording.lines):
+            if is_edit(line):
+                self.document.apply(line)
+        self.unseen = {recording.story.numbers.get(key) for key in recording.evaluate("recorder.unseen()")}
 
 
 class Difference:
-    """A node that the two trees show otherwise; `ours` or `theirs` is None where the tree lacks it."""
+    """A node that the two trees show otherwise; `ours` or `theirs` is None where the tree lacks it, and `number` where the story
+    lacks it."""
 
-    def __init__(self, number, ours, theirs, shown, unseen):
-        self.number, self.ours, self.theirs, self.shown, self.unseen = number, ours, theirs, shown, unseen
+    def __init__(self, page, number, theirs):
+        self.page, self.number, self.theirs = page, number, theirs
+        self.ours, self.node = page.ours.get(number), page.document.nodes.get(number)
         self.reason = reason(self)
 
     def told(self):
-        here, there = ("nothing" if it is None else "%s %s" % (it.role, json.dumps(it.name, ensure_ascii=False)) for it in (self.ours, self.theirs))
-        return "%s: %s; Chromium: %s: %s" % (self.number or "-", here, there, self.reason or "no reason is known " + str(self.theirs and (self.theirs.why_ignored, self.theirs.names_from)))
+        here, there = ("nothing" if it is None else it.told() for it in (self.ours, self.theirs))
+        unknown = " ".join(["no reason is known"] + list(self.theirs.why_ignored if self.theirs else ()))
+        return "%s: %s; Chromium: %s: %s" % (self.number or "-", here, there, self.reason or unknown)
 
 
 def their_tree(recording):
@@ -77,54 +95,46 @@ def keys_of(recording, objects):
     """The recorder's keys of nodes that Chromium names as objects."""
     if not objects:
         return []
-    answer = recording.browser.call("Runtime.callFunctionOn", functionDeclaration="(...nodes) => recorder.keys_of(...nodes)",
-                                    executionContextId=recording.context, arguments=[{"objectId": each} for each in objects], returnByValue=True)
+    words = {"functionDeclaration": "(...nodes) => recorder.keys_of(...nodes)", "arguments": [{"objectId": each} for each in objects]}
+    answer = recording.browser.call("Runtime.callFunctionOn", executionContextId=recording.context, returnByValue=True, **words)
     return answer["result"]["value"]
 
 
 def our_tree(story, program):
-    """The objects that the program's dump shows, by their numbers."""
+    """The objects that the program's dump shows, by their numbers, and the numbers of those with kids."""
     done = subprocess.run([program, "dump"], input=story.encode(), stdout=subprocess.PIPE, stderr=subprocess.DEVNULL)
-    lines = done.stdout.decode().splitlines()
+    lines = done.stdout.decode().split("\n")[:-1]
     if done.returncode or not lines or not lines[-1].startswith("end "):
         raise Trouble("%s dump fails with status %d: %s" % (program, done.returncode, lines[0] if lines else ""))
-    objects = {}
-    for line in lines[:-1]:
-        number, _, role, name = OBJECT.fullmatch(line).groups()
-        objects[int(number)] = Seen(role, json.loads(name))
-    return objects
+    objects = list(dumped_objects(lines[:-1]))
+    return {number: Seen(role, flat(name)) for number, _, role, name in objects}, {parent for _, parent, _, _ in objects}
 
 
-def last_document(lines):
-    """The document of a story after all of its edits."""
-    document = Document()
-    for line in map(json.loads, lines):
-        if not {"start", "flush", "until", "await", "again", "notices"} & set(line):
-            document.apply(line)
-    return document
+def is_alike(here, there):
+    return here is not None and there is not None and not there.is_ignored and (here.role, here.name) == (there.role, there.name)
 
 
 def compare(recording, program):
     """The number of objects that are alike, and the differences in tree order, those of no node of the story last."""
-    ours, (theirs, others) = our_tree(recording.text(), program), their_tree(recording)
-    shown, alike, differences = Shown(last_document(recording.lines)), 0, []
-    unseen = {recording.story.numbers.get(key) for key in recording.evaluate("recorder.unseen()")}
+    page, (theirs, others) = Page(recording, program), their_tree(recording)
+    alike, differences = 0, []
     for number in recording.story.numbers.values():
-        here, there = ours.get(number), theirs.get(number)
+        here, there = page.ours.get(number), theirs.get(number)
         if not any(each is not None and each.is_shown() for each in (here, there)):
             continue
-        if here and there and not there.is_ignored and (here.role, flat(here.name)) == (there.role, there.name):
+        if is_alike(here, there):
             alike += 1
         else:
-            differences.append(Difference(number, here, there, shown, unseen))
-    return alike, differences + [Difference(None, None, there, shown, unseen) for there in others if there.is_shown()]
+            differences.append(Difference(page, number, there))
+    return alike, differences + [Difference(page, None, there) for there in others if there.is_shown()]
 
 
 def totals(alike, differences):
     """One line that counts what was compared."""
     explained = sum(1 for each in differences if each.reason)
     both = [each for each in differences if each.ours and each.theirs and each.theirs.is_shown()]
-    roles = sum(1 for each in both if each.ours.role == each.theirs.role)
-    names = sum(1 for each in both if flat(each.ours.name) == each.theirs.name)
-    return "in both trees %d: %d with the same role, %d with the same name; alike %d, different %d: %d by the profile, %d for no known reason" % (
-        alike + len(both), alike + roles, alike + names, alike, len(differences), explained, len(differences) - explained)
+    roles = alike + sum(1 for each in both if each.ours.role == each.theirs.role)
+    names = alike + sum(1 for each in both if each.ours.name == each.theirs.name)
+    shared = "in both trees %d: %d with the same role, %d with the same name" % (alike + len(both), roles, names)
+    counted = (alike, len(differences), explained, len(differences) - explained)
+    return shared + "; alike %d, different %d: %d by the profile, %d for no known reason" % counted

@@ -3,8 +3,13 @@
 docs/BROWSERS.md has the table, by the same words. A test takes a difference; `ours` or `theirs` is None where the tree lacks
 the node. The first one that holds is the reason.
 """
-from model import NAMELESS, PRUNING, flat, tokens
+from model import flat
 
+# The tags that have a role of their own, the roles below which nothing is an object, and those that cannot be named.
+TAGS = "main article button nav p h1 h2 h3 h4 h5 h6 a img ul ol li table tr td th textarea input".split()
+PRUNING = "button checkbox img option progressbar radio slider switch tab".split()
+NAMELESS = "caption code emphasis generic none paragraph strong".split()
+# Chromium's own words for why it shows no object.
 INERT = {"activeModalDialog", "inertElement", "inertSubtree"}
 
 
@@ -25,11 +30,16 @@ def is_name(it):
 
 
 def is_text(it):
-    return it.number is not None and it.shown.nodes[it.number].is_text()
+    return it.number is not None and it.node.is_text()
 
 
-def is_element(it):
-    return it.number is not None and not is_text(it)
+def is_element(it, *tags):
+    """Whether it is an element, with one of these tags if some are given."""
+    return it.number is not None and not is_text(it) and (not tags or it.node.tag in tags)
+
+
+def asks_for_no_role(it):
+    return flat(it.node.attrs.get("role", "")) == ""
 
 
 def no_node(it):
@@ -41,30 +51,28 @@ def title(it):
 
 
 def pruned(it):
-    above = list(it.shown.document.above(it.number))[1:]
-    return is_only_theirs(it) and any(it.shown.role(each) in PRUNING for each in above)
+    above = (it.page.ours.get(each) for each in it.page.document.above(it.number))
+    return is_only_theirs(it) and any(each is not None and each.role in PRUNING for each in above)
 
 
 def blank(it):
-    return is_only_theirs(it) and is_text(it) and not flat(it.shown.nodes[it.number].text)
+    return is_only_theirs(it) and is_text(it) and not flat(it.node.text)
 
 
 def visibility(it):
     """Of a node that is not visible, or of a name with such a text in it."""
     if is_only_ours(it):
-        return it.number in it.unseen
-    return is_name(it) and any(each in it.unseen for each in it.shown.document.subtree(it.number))
+        return it.number in it.page.unseen
+    return is_name(it) and any(each in it.page.unseen for each in it.page.document.subtree(it.number))
 
 
 def tag(it):
     """Of an element whose tag gives no role, and that asks for none."""
-    if not is_element(it) or not (is_only_theirs(it) or is_role(it)) or it.number == 1:
-        return False
-    return it.shown.asked_role(it.number) is None and it.shown.tag_role(it.number) == "generic" and it.shown.tag(it.number) != "a"
+    return is_element(it) and (is_only_theirs(it) or is_role(it)) and it.node.tag not in TAGS and asks_for_no_role(it)
 
 
 def anchor(it):
-    return is_element(it) and it.shown.tag(it.number) == "a" and not it.shown.has(it.number, "href") and (is_only_theirs(it) or is_role(it))
+    return is_element(it, "a") and "href" not in it.node.attrs and (is_only_theirs(it) or is_role(it))
 
 
 def row(it):
@@ -76,11 +84,11 @@ def menu_choice(it):
 
 
 def list_item(it):
-    return is_only_ours(it) and is_element(it) and it.shown.tag(it.number) == "li" and it.shown.asked_role(it.number) is None
+    return is_only_ours(it) and is_element(it, "li") and asks_for_no_role(it)
 
 
 def input_type(it):
-    return is_role(it) and it.shown.tag(it.number) == "input" and it.shown.asked_role(it.number) is None
+    return is_role(it) and is_element(it, "input") and asks_for_no_role(it)
 
 
 def layout_table(it):
@@ -91,9 +99,20 @@ def inert(it):
     return is_only_ours(it) and it.theirs is not None and bool(INERT & set(it.theirs.why_ignored))
 
 
+def label_text(it):
+    """Of a label's text, which Chromium leaves to the box that it labels."""
+    above = (it.page.document.nodes[each] for each in it.page.document.above(it.number))
+    return is_only_ours(it) and is_text(it) and any(each.tag == "label" for each in above)
+
+
 def empty(it):
     """Of an element without kids or a name."""
-    return is_only_ours(it) and is_element(it) and not it.shown.kids(it.number) and not it.ours.name
+    return is_only_ours(it) and is_element(it) and not it.ours.name and it.number not in it.page.parents
+
+
+def inline(it):
+    """Of a block that is laid out in a line."""
+    return is_only_ours(it) and is_element(it) and it.node.attrs.get("display") == "inline" and not it.ours.name
 
 
 def name_not_taken(it):
@@ -102,8 +121,7 @@ def name_not_taken(it):
 
 def host_label(it):
     """Of a field that Chromium names by a placeholder, or by a label that is around it or not the first one."""
-    return is_name(it) and it.shown.tag(it.number) in ("input", "textarea", "select") and \
-        bool({"placeholder", "relatedElement"} & set(it.theirs.names_from))
+    return is_name(it) and is_element(it, "input", "textarea") and bool({"placeholder", "relatedElement"} & set(it.theirs.names_from))
 
 
 def cut(it):
@@ -111,13 +129,14 @@ def cut(it):
 
 
 def references(it):
-    return is_name(it) and len(tokens(it.shown.attr(it.number, "aria-labelledby"))) > 8
+    return is_name(it) and is_element(it) and len(it.node.attrs.get("aria-labelledby", "").split()) > 8
 
 
 DEPARTURES = [
     ("no node", no_node), ("title", title), ("pruned", pruned), ("blank", blank), ("visibility", visibility), ("inert", inert),
-    ("table", layout_table), ("anchor", anchor), ("tag", tag), ("input", input_type), ("listitem", list_item), ("empty", empty),
-    ("row", row), ("menuitem", menu_choice), ("nameless", name_not_taken), ("label", host_label), ("cut", cut), ("references", references),
+    ("table", layout_table), ("anchor", anchor), ("tag", tag), ("input", input_type), ("listitem", list_item),
+    ("label text", label_text), ("empty", empty), ("inline", inline), ("row", row), ("menuitem", menu_choice),
+    ("nameless", name_not_taken), ("label", host_label), ("cut", cut), ("references", references),
 ]
 
 

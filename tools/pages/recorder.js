@@ -5,7 +5,7 @@
 // for one node of the page as long as that lives. `focus` is a key, or 0. `left` lists what the format of stories cannot hold,
 // as [kind, key, name]. docs/BROWSERS.md says what is left out, and how.
 (() => {
-  const ROOT = 1, MOST_LEVELS = 64, MOST_VALUE_BYTES = 4096, MOST_CHARACTERS = 65536, FARTHEST = 1048576;
+  const FRAMES_OF_REST = 24, ROOT = 1, MOST_LEVELS = 64, MOST_VALUE_BYTES = 4096, MOST_CHARACTERS = 65536, FARTHEST = 1048576;
   const NAME = /^[a-z][a-z0-9_:.-]{0,63}$/, TAG = /^[a-z][a-z0-9-]{0,31}$/;
   const SCRIPTS = new Set(["script", "style", "template", "noscript"]);
   const WORDS_OF_DISPLAY = new Set(["none", "block", "inline"]);
@@ -128,7 +128,8 @@
     const boxes = Array.from(range.getClientRects());
     if (!boxes.length) return [];
     const across = is_across(node), from = [boxes[0].left, boxes[0].top];
-    const shape = JSON.stringify([across, boxes.map(box => [box.left - from[0], box.top - from[1], box.width, box.height].map(it => Math.round(it * 8)))]);
+    const told = boxes.map(box => [box.left - from[0], box.top - from[1], box.width, box.height].map(it => Math.round(it * 8)));
+    const shape = JSON.stringify([across, told]);
     const known = known_lines.get(node);
     if (known && known.data === node.data && known.shape === shape) {
       const x = from[0] - known.from[0], y = from[1] - known.from[1];
@@ -153,7 +154,8 @@
     for (const piece of pieces_of(node)) {
       const [first, past, left, top, right, bottom] = piece, around = lines_around(node), across = is_across(node);
       const box = {left, top, right, bottom};
-      if (!line || line.around !== around || !is_beside(line.piece, box, across)) line = {number: line ? line.number + 1 : 0, around, piece: piece.slice()};
+      const is_new = !line || line.around !== around || !is_beside(line.piece, box, across);
+      if (is_new) line = {number: line ? line.number + 1 : 0, around, piece: piece.slice()};
       else widen(line.piece, box);
       runs.push([first, past, line.number, ...rectangle(left, top, right, bottom, node)]);
     }
@@ -214,15 +216,15 @@
 
   // The frames.
 
-  let told, is_on = false;
+  let told, is_on = false, unchanged = 0;
 
   function next_frame() {
     if (!is_on) return;
     const now = snapshot();
-    if (now !== told) {
-      told = now;
-      tell_frame(now);
-    }
+    unchanged = now === told ? unchanged + 1 : 0;
+    if (!unchanged) tell_frame(now);
+    if (unchanged === FRAMES_OF_REST) tell_frame("");
+    told = now;
     requestAnimationFrame(next_frame);
   }
 
@@ -231,6 +233,10 @@
       is_on = true;
       requestAnimationFrame(next_frame);
       return told = snapshot();
+    },
+    // From here on the frames are counted in which nothing changes; after enough of them an empty frame is told.
+    watch() {
+      unchanged = 0;
     },
     // Ends the recording, with the last snapshot, or an empty text where nothing changed since one was told.
     end() {

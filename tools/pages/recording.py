@@ -7,11 +7,11 @@ import urllib.parse
 
 from browser import Trouble
 from difference import Full, Story
-from model import Document, Tree
+from model import Document, Tree, is_edit
 from script import Hands
 
 WORLD = "axcore"
-QUIET, LONGEST_STEP, LOADING = 0.4, 5, 30
+REST, GOING, LONGEST_STEP, LOADING = 0.4, 0.5, 10, 60
 MOST_FLUSHES, MOST_BYTES = 65535, 16777216
 HERE = os.path.dirname(os.path.abspath(__file__))
 HOSTS = ("localhost", "127.0.0.1", "::1")
@@ -53,8 +53,8 @@ class Recording:
         self.browser, self.story, self.lines, self.bytes = browser, Story(), [], 0
         self.most, self.is_heard, self.flushes, self.heard_at = min(flushes, MOST_FLUSHES), is_heard, 0, None
         self.left, self.is_over, self.is_gone, self.context = collections.defaultdict(set), None, False, None
-        self.is_loaded, self.is_idle = False, False
-        self.last_change, self.document, self.modelled = time.monotonic(), Document(), 0
+        self.is_loaded, self.is_at_rest, self.loader, self.idle = False, False, None, set()
+        self.document, self.modelled = Document(), 0
 
     def open(self, page):
         """Opens a page, and writes its document before the start."""
@@ -65,13 +65,17 @@ class Recording:
         browser.call("Runtime.enable")
         browser.call("Emulation.setFocusEmulationEnabled", enabled=True)
         answer = browser.call("Page.navigate", url=address(page))
+        self.loader = answer.get("loaderId")
         if "errorText" in answer:
             raise Trouble("Chromium cannot open %s: %s" % (page, answer["errorText"]))
         end = time.monotonic() + LOADING
         while not self.is_loaded and time.monotonic() < end:
             browser.receive(end - time.monotonic())
         self.enter()
-        self.write_base(json.loads(self.evaluate("recorder.begin()")))
+        told = self.evaluate("recorder.begin()")
+        if not told:
+            raise Trouble("the page gave way to another before it could be recorded")
+        self.write_base(json.loads(told))
 
     def write_base(self, snapshot):
         """Writes the document of moment 0, and the start."""
@@ -93,7 +97,14 @@ class Recording:
             self.evaluate(file.read())
 
     def evaluate(self, expression):
-        answer = self.browser.call("Runtime.evaluate", expression=expression, contextId=self.context, returnByValue=True)
+        """What an expression gives in the recorder's world; None where the page gave way to another."""
+        sent = self.browser.send("Runtime.evaluate", expression=expression, contextId=self.context, returnByValue=True)
+        answer = self.browser.answers([sent]).get(sent)
+        if answer is None:
+            self.browser.listen(GOING)
+            if self.is_gone:
+                return None
+            raise Trouble("Chromium refuses to evaluate in the page")
         if "exceptionDetails" in answer:
             raise Trouble("the recorder fails in this page: %s" % answer["exceptionDetails"].get("exception", {}).get("description"))
         return answer["result"].get("value")
@@ -103,12 +114,13 @@ class Recording:
         if method == "Page.loadEventFired":
             self.is_loaded = True
         elif method == "Page.lifecycleEvent" and params["name"] == "networkIdle":
-            self.is_idle = self.is_loaded
+            self.idle.add(params["loaderId"])
         elif method == "Page.javascriptDialogOpening":
             self.browser.send("Page.handleJavaScriptDialog", accept=True)
         elif method == "Runtime.bindingCalled" and params["name"] == "tell_frame":
-            self.last_change = time.monotonic()
-            self.take(json.loads(params["payload"]))
+            self.is_at_rest = not params["payload"]
+            if params["payload"]:
+                self.take(json.loads(params["payload"]))
         elif method == "Runtime.executionContextDestroyed" and params["executionContextId"] == self.context:
             self.is_gone = True
             self.end("the page gave way to another")
@@ -147,21 +159,25 @@ class Recording:
         if edits and self.write(edits + [{"flush": True}]):
             self.flushes += 1
 
-    def settle(self, least):
-        """Hears the page for so many seconds, and then until it has loaded what it asks for and nothing changes for a while, or the
-        step is long enough."""
-        begin = time.monotonic()
+    def settle(self, least, longest=LONGEST_STEP):
+        """Hears the page for so many seconds, and then until it has loaded what it asks for and rests, or for as long as that.
+
+        It rests where nothing changed in a number of frames, and for a while."""
+        if self.is_over:
+            return
+        begin, self.is_at_rest = time.monotonic(), False
+        self.evaluate("recorder.watch()")
         while not self.is_over:
-            now = time.monotonic()
-            waited, still = now - begin, now - max(self.last_change, begin)
-            if waited >= least and (self.is_idle and still >= QUIET or waited >= least + LONGEST_STEP):
+            waited = time.monotonic() - begin
+            is_done = self.is_at_rest and self.loader in self.idle and waited >= REST
+            if waited >= least and (is_done or waited >= least + longest):
                 break
             self.browser.receive(0.05)
 
     def play(self, steps):
         """Lets the page run and does the steps, until the page rests or the recording is over."""
         hands = Hands(self.browser, self.context)
-        self.settle(0)
+        self.settle(0, LOADING)
         self.talk()
         for index, (kind, what) in enumerate(steps, 1):
             if self.is_over:
@@ -184,14 +200,13 @@ class Recording:
             return
         self.heard_at, focus = self.flushes, self.focused_object()
         asked = [{"q": "focus"}] + [{"q": word, "id": focus} for word in ("role", "name", "description", "states", "value") if focus]
-        told = self.write(([{"until": self.flushes}] if self.flushes else []) + [{"await": self.flushes}])
-        if told:
-            self.write([{"again": request} for request in asked] + ([{"notices": True}] if self.flushes else []))
+        waits = [{"until": self.flushes}, {"await": self.flushes}] if self.flushes else []
+        self.write(waits + [{"again": request} for request in asked] + ([{"notices": True}] if self.flushes else []))
 
     def focused_object(self):
         """The object with the focus, by the second model; None without one."""
         for line in map(json.loads, self.lines[self.modelled:]):
-            if not {"start", "flush", "until", "await", "again", "notices"} & set(line):
+            if is_edit(line):
                 self.document.apply(line)
         self.modelled = len(self.lines)
         return Tree(self.document).focus

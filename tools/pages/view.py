@@ -4,9 +4,10 @@ import json
 import os
 import re
 
-from model import Document, Shown, Story, Tree, notices
+from model import Document, Story, Tree, dumped_objects, notices
 
 HERE = os.path.dirname(os.path.abspath(__file__))
+ASKED = ("description", "value", "states", "level", "live", "frame")
 SMALLEST_WIDTH, SMALLEST_HEIGHT, TALLEST = 320, 200, 20000
 
 
@@ -17,12 +18,13 @@ class Moments:
         self.objects, self.places, self.moments, self.before = [], {}, [], None
 
     def add(self, document):
-        tree, shown = Tree(document), Shown(document)
+        tree = Tree(document)
         told = notices(self.before, tree) if self.before else []
         depths, indices = {0: -1}, []
-        for id, parent in tree.parents.items():
+        for id, parent, role, name in dumped_objects(tree.dumped().split("\n")[:-1]):
             depths[id] = depths[parent] + 1
-            indices.append(self.place(object_of(shown, id, parent, depths[id])))
+            about = {"id": id, "parent": parent, "depth": depths[id], "role": role, "name": name}
+            indices.append(self.place(about | {word: asked(tree, word, id) for word in ASKED}))
         self.moments.append({"objects": indices, "focus": tree.focus or 0, "notices": told})
         self.before = tree
 
@@ -40,10 +42,17 @@ class Moments:
         return [width, min(max([y + h for _, y, _, h in frames] + [SMALLEST_HEIGHT]), TALLEST)]
 
 
-def object_of(shown, id, parent, depth):
-    return {"id": id, "parent": parent, "depth": depth, "role": shown.role(id), "name": shown.name(id), "value": shown.value(id),
-            "description": shown.description(id), "states": " ".join(shown.states(id)), "level": shown.level(id),
-            "live": shown.live(id), "frame": shown.frame(id)}
+def asked(tree, word, id):
+    """What a tree answers about an object: a text, a number, the numbers of a frame, or None."""
+    told = tree.answer({"q": word, "id": id})
+    if told == "none":
+        return None
+    text = told[len(word) + 1:]
+    if word in ("description", "value"):
+        return json.loads(text)
+    if word == "frame":
+        return [int(each) for each in text.split(" ")]
+    return int(text) if word == "level" else text
 
 
 def page_of(lines, title):
