@@ -12,30 +12,6 @@ use Rattle.ax_record.specs.Tree.{Tree, record_at, has_object}
 use Rattle.ax_search.specs.Searches.{found}
 use Rattle.hit_test.specs.Hits.{hit}
 
--- The requests that are answered: all but those about markers.
-abbrev pub is_answered : Request → Bool
-is_answered Root = true
-is_answered Focus = true
-is_answered (Role id) = true
-is_answered (Name id) = true
-is_answered (Description id) = true
-is_answered (Value id) = true
-is_answered (States id) = true
-is_answered (Level id) = true
-is_answered (Live id) = true
-is_answered (Frame id) = true
-is_answered (Parent id) = true
-is_answered (Children id from) = true
-is_answered (Compare a b) = false
-is_answered (NextChar at) = false
-is_answered (PrevChar at) = false
-is_answered (NextWord at) = false
-is_answered (LineAt at) = false
-is_answered (TextOf from to) = false
-is_answered (BoundsOf from to) = false
-is_answered (Search r) = true
-is_answered (Hit x y) = true
-
 -- the object that a request is about
 abbrev pub asked_object : Request → Option ℕ
 asked_object Root = None

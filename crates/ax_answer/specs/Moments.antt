@@ -1,13 +1,10 @@
 -- What is answered and noticed at each moment.
-use Rattle.std.specs.Prelude.{ℕ, Bool, true, false, IsTrue, List, []}
-use Rattle.std.specs.List.{All}
+use Rattle.std.specs.Prelude.{ℕ, List}
 use Rattle.ax_base.specs.declared.notices.Notice.{Notice}
 use Rattle.ax_ask.specs.declared.requests.Request.{Request}
 use Rattle.ax_ask.specs.declared.replies.Reply.{Reply}
 use Rattle.ax_notice.specs.Moments.{notices_up_to}
-use Rattle.ax_answer.specs.Answers.{answer, is_answered}
-use Rattle.story_check.specs.declared.story.ClientLine.{ClientLine}
-use Rattle.story_check.specs.declared.story.ClientLine.TheVariants.{Ask, Again, Hear, Await, Notices}
+use Rattle.ax_answer.specs.Answers.{answer}
 use Rattle.story_check.specs.Stories.{Script}
 use Rattle.story_check.specs.Moments.{tree_at}
 
@@ -18,15 +15,3 @@ answer_at s k q = answer (tree_at s k) q
 -- the notices of the moments t+1 to p, joined in order
 unfoldable pub notices_of : Script → ℕ → ℕ → List Notice
 notices_of s t p = notices_up_to (tree_at s) t p
-
--- whether a line asks nothing, or what is answered
-abbrev pub is_answered_line : ClientLine → Bool
-is_answered_line (Ask q) = is_answered q
-is_answered_line (Again q) = is_answered q
-is_answered_line Hear = true
-is_answered_line (Await a) = true
-is_answered_line Notices = true
-
--- every line asks nothing, or what is answered
-abbrev pub AreAnswered : List ClientLine → Type 0
-AreAnswered lines = All (λ x. IsTrue (is_answered_line x)) lines

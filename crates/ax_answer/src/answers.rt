@@ -1,6 +1,6 @@
 //! The answer to a request.
-ghost use Rattle.std.specs.Prelude.{◌≡◌, ◌≤◌, length, IfOk, IsTrue};
-ghost use Rattle.ax_answer.specs.Answers.{is_answered, asked_object, answer_of, answer_whole, answer, children_from};
+ghost use Rattle.std.specs.Prelude.{◌≡◌, ◌≤◌, length, IfOk};
+ghost use Rattle.ax_answer.specs.Answers.{asked_object, answer_of, answer_whole, answer, children_from};
 
 use crate::searches::answer_search;
 use ax_ask::{Reply, Request};
@@ -14,7 +14,6 @@ use std::alloc::Global;
 /// memory for a copy of a text or of ids, or for a search.
 #[tactic(auto, using(ax_record::proofs::FewKids::few_of))]
 pub fn answer<T: TreeView>(alloc: Global, t: &T, q: &Request) -> Result<Reply, NoMemory>
-    requires { IsTrue (is_answered q.now) }
     ensures { IfOk result (λ r. r ≡ answer (T.tree t.now) q.now) }
 {
     let Some(id) = asked_object(q) else {

@@ -1,6 +1,5 @@
 //! One call for each form of the client's lines.
-ghost use Rattle.std.specs.Prelude.{◌≡◌, ◌∷◌, List, IsTrue};
-ghost use Rattle.ax_answer.specs.Answers.{is_answered};
+ghost use Rattle.std.specs.Prelude.{◌≡◌, ◌∷◌, List};
 ghost use Rattle.story_check.specs.declared.story.ClientLine.{ClientLine};
 ghost use Rattle.story_check.specs.declared.story.ClientLine.TheVariants.{Ask, Again, Hear, Await, Notices as NoticesLine};
 ghost use Rattle.ax_port.specs.States.{SameClient};
@@ -25,7 +24,6 @@ pub(crate) fn asked<R: Wait>(
     request: &Request,
 ) -> Result<Side, ClientEnd>
     requires own { port.old.table ≡ ports.now.table }
-    requires answered { IsTrue (is_answered request.now) }
     requires stands { (left : List ClientLine) × ClientStands port.old.story (Ask request.now ∷ left) port.old.client side }
     ensures own { SameClient port.old port.new }
     ensures did { (left : List ClientLine) → ClientStands port.old.story (Ask request.now ∷ left) port.old.client side → LineDid port.old.story left port.new.client result }
@@ -43,7 +41,6 @@ pub(crate) fn again(
     side: Side,
     request: &Request,
 ) -> Result<Side, ClientEnd>
-    requires answered { IsTrue (is_answered request.now) }
     requires stands { (left : List ClientLine) × ClientStands port.old.story (Again request.now ∷ left) port.old.client side }
     ensures own { SameClient port.old port.new }
     ensures did { (left : List ClientLine) → ClientStands port.old.story (Again request.now ∷ left) port.old.client side → LineDid port.old.story left port.new.client result }

@@ -1,10 +1,9 @@
 //! The client's lines, one after another.
-ghost use Rattle.std.specs.Prelude.{◌≡◌, ◌≤◌, ◌∷◌, List, length, true, IsTrue};
+ghost use Rattle.std.specs.Prelude.{◌≡◌, ◌≤◌, ◌∷◌, List, length, true};
 ghost use Rattle.turn_word.specs.Views.{new_client};
 ghost use Rattle.story_check.specs.declared.story.ClientLine.{ClientLine};
 ghost use Rattle.story_check.specs.Stories.{flushes};
 ghost use Rattle.story_check.specs.Moments.{tree_at, AreTrees};
-ghost use Rattle.ax_answer.specs.Moments.{is_answered_line, AreAnswered};
 ghost use Rattle.ax_port.specs.States.{SameClient};
 ghost use Rattle.ax_client.specs.Clients.{ClientStands, LineDid, ClientDid};
 
@@ -39,7 +38,6 @@ pub fn client_work<R: Wait, G: Gate>(
     requires lines { lines.now ≡ port.story.client }
     requires few { length lines.now ≤ 16384 }
     requires flushes { count ≡ flushes port.story.page }
-    requires answered { AreAnswered lines.now }
     requires trees { AreTrees port.story }
     requires tree { tree ≡ tree_at port.story 0 }
     ensures own { SameClient port result.0 }
@@ -82,7 +80,6 @@ fn line_done<R: Wait>(
     line: &ClientLine,
 ) -> Result<Side, ClientEnd>
     requires own { port.old.table ≡ ports.now.table }
-    requires answered { IsTrue (is_answered_line line.now) }
     requires stands { (left : List ClientLine) × ClientStands port.old.story (line.now ∷ left) port.old.client side }
     ensures own { SameClient port.old port.new }
     ensures did { (left : List ClientLine) → ClientStands port.old.story (line.now ∷ left) port.old.client side → LineDid port.old.story left port.new.client result }

@@ -1,8 +1,7 @@
--- Whatever the client of a built story asks is answered.
+-- Which stories are built, by their last moments.
 use Rattle.std.proofs.Common.{◌≡◌, ℕ, List, true, false, sym, ap, ◌∙◌, subst}
 use Rattle.std.specs.Prelude.{Ok, Err, if◌then◌else◌, Result}
 use Rattle.std.specs.List.{list_all}
-use Rattle.std.proofs.lemmas.List.Sums.{AllPass-from_list_all}
 use Rattle.story_check.specs.declared.last.LastMoment.{LastMoment}
 use Rattle.story_check.specs.declared.refusals.Refusal.{Refusal as StoryRefusal}
 use Rattle.story_check.specs.declared.refusals.AcceptFail.{AcceptFail as StoryFail}
@@ -10,14 +9,9 @@ use Rattle.story_check.specs.declared.refusals.AcceptFail.TheVariants.{Refused}
 use Rattle.story_check.specs.Stories.{Script}
 use Rattle.story_check.specs.Acceptance.{judged as story_of, AcceptFails}
 use Rattle.story_check.specs.Last.{IsLastOf}
-use Rattle.ax_answer.specs.Moments.{AreAnswered, is_answered_line}
 use Rattle.ax_session.specs.declared.story.Refusal.{Refusal}
-use Rattle.ax_session.specs.Built.{is_built}
+use Rattle.ax_session.specs.Built.{is_answered_line}
 use Rattle.ax_session.specs.Story.{judged, built_of, not_built, of_story, Accepted, IsRefused}
-
--- the requests of a built story are all answered
-pub built_is_answered : (s : Script) → is_built s ≡ true → AreAnswered s.client
-built_is_answered s h = AllPass-from_list_all is_answered_line s.client h
 
 -- a story whose last moment is told is built where the lines of its client are
 pub built_last : (bytes : List ℕ) (last : LastMoment) → (story : Script) × (story_of bytes ≡ Ok story) × IsLastOf story last → list_all is_answered_line last.client.items ≡ true

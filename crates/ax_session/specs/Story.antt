@@ -4,7 +4,6 @@ use Rattle.story_check.specs.declared.refusals.Refusal.{Refusal as StoryRefusal}
 use Rattle.story_check.specs.Stories.{Script, stuck}
 use Rattle.story_check.specs.Moments.{IsAccepted}
 use Rattle.story_check.specs.Acceptance.{judged as story_of}
-use Rattle.ax_answer.specs.Moments.{AreAnswered}
 use Rattle.ax_session.specs.declared.story.Cause.TheVariants.{NotBuilt, Story}
 use Rattle.ax_session.specs.declared.story.Refusal.{Refusal}
 use Rattle.ax_session.specs.declared.story.AcceptFail.{AcceptFail}
@@ -52,4 +51,3 @@ Accepts (Err fail) what = AcceptFails fail what
 pub record IsReady (s : Script) : Type 0 where
   pub accepted : IsAccepted s
   pub free : stuck s ≡ false
-  pub answered : AreAnswered s.client

@@ -1,9 +1,7 @@
 //! Which accepted stories are built today.
 ghost use Rattle.std.specs.Prelude.{◌≡◌};
 ghost use Rattle.std.specs.List.{list_all};
-ghost use Rattle.ax_answer.specs.Answers.{is_answered};
-ghost use Rattle.ax_answer.specs.Moments.{is_answered_line};
-ghost use Rattle.ax_session.specs.Built.{is_built};
+ghost use Rattle.ax_session.specs.Built.{is_answered, is_answered_line, is_built};
 
 use ax_ask::Request;
 use story_check::{ClientLine, Story};

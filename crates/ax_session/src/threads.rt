@@ -3,7 +3,6 @@ ghost use Rattle.std.specs.Prelude.{◌≡◌, false, IfOk};
 ghost use Rattle.story_check.specs.Stories.{stuck};
 ghost use Rattle.story_check.specs.Moments.{IsAccepted};
 ghost use Rattle.ax_answer.specs.Legal.{IsLegalTranscript};
-ghost use Rattle.ax_answer.specs.Moments.{AreAnswered};
 ghost use Rattle.ax_world.specs.Machine.{transcript_in_turns};
 
 use crate::jobs::{ClientJob, PageJob};
@@ -24,7 +23,7 @@ use story_check::{Story, base_dom};
 /// legal transcript of the story, whatever the schedule.
 ///
 /// Where the spawner gives both jobs up, the story is played in alternate turns on this thread, the page first and without
-/// its turn list. The story is accepted and not stuck, and its client asks what is answered. The only error is want of memory.
+/// its turn list. The story is accepted and not stuck. The only error is want of memory.
 pub fn run_threads<R: Threads + Wait + Sync, G: Gate + Sync, S: Spawner>(
     rt: &R,
     alloc: Global,
@@ -34,7 +33,6 @@ pub fn run_threads<R: Threads + Wait + Sync, G: Gate + Sync, S: Spawner>(
 ) -> Result<Transcript, NoMemory>
     requires free { stuck story.now ≡ false }
     requires accepted { IsAccepted story.now }
-    requires answered { AreAnswered story.now.client }
     ensures legal { IfOk result (IsLegalTranscript story.now) }
     ensures alone { (S.may_start spawner.old → ⊥) → IfOk result (λ w. w ≡ transcript_in_turns story.now) }
 {

@@ -26,7 +26,7 @@ use Rattle.ax_ask.specs.declared.transcripts.Entry.{Entry}
 use Rattle.ax_ask.specs.declared.requests.Request.{Request}
 use Rattle.ax_ask.specs.declared.replies.Reply.{Reply}
 use Rattle.ax_answer.specs.Answers.{answer}
-use Rattle.ax_answer.specs.Moments.{AreAnswered, is_answered_line, answer_at, notices_of}
+use Rattle.ax_answer.specs.Moments.{answer_at, notices_of}
 use Rattle.ax_answer.proofs.Noticing.{notices-join, notices-none}
 use Rattle.ax_world.specs.Machine.{State, start}
 use Rattle.ax_world.specs.Worlds.{IsKept}
@@ -56,15 +56,14 @@ pub base_is : (s : Script) → document_at s 0 ≡ after_edits new_document s.ba
 unfolding document_at
 base_is s = refl
 
-pub kept_start : (s : Script) (entries : List Entry) (document : Document) (live : LiveDocument) (log : List LogEntry) (mine : Tree) (pending : List Notice) → document ≡ after_edits new_document s.base → live ≡ record { flushed = tree document; document = document } → log ≡ [] → mine ≡ live.flushed → pending ≡ [] → AreLinesAccepted (after_edits new_document s.base) s.page → AreAnswered s.client → AreTrees s → IsKept s (record start { entries = entries }) live log mine pending
-kept_start s entries document live log mine pending d v l m p a q trees =
+pub kept_start : (s : Script) (entries : List Entry) (document : Document) (live : LiveDocument) (log : List LogEntry) (mine : Tree) (pending : List Notice) → document ≡ after_edits new_document s.base → live ≡ record { flushed = tree document; document = document } → log ≡ [] → mine ≡ live.flushed → pending ≡ [] → AreLinesAccepted (after_edits new_document s.base) s.page → AreTrees s → IsKept s (record start { entries = entries }) live log mine pending
+kept_start s entries document live log mine pending d v l m p a trees =
     let is : live.document ≡ after_edits new_document s.base = ap (λ (x : LiveDocument). x.document) v ∙ d in
     let shown : live.flushed ≡ tree_at s 0 = tree_of_start s document live.flushed d (ap (λ (x : LiveDocument). x.flushed) v) in
     record {
       left = omega arith;
       later = λ k. later_of_start s live.document k is;
       accepted = subst (λ x. AreLinesAccepted x s.page) (sym is) a;
-      answered = q;
       trees = trees;
       shown_is = shown;
       log_is = l ∙ sym (span-none (tree_at s) 0);
@@ -86,7 +85,6 @@ kept_change s c live log mine pending done edit now h line e v =
       left = let f = ap flushes d in let g = h.left in omega arith;
       later = λ k. h.later k ∙ (ap (λ l. after_flushes live.document l (suc k)) d ∙ ap (λ x. after_flushes x (drop done s.page) (suc k)) (sym f));
       accepted = subst (λ x. AreLinesAccepted x (drop done s.page)) (sym f) (subst (AreLinesAccepted live.document) d h.accepted).1;
-      answered = h.answered;
       trees = h.trees;
       shown_is = ap (λ (x : LiveDocument). x.flushed) v ∙ h.shown_is;
       log_is = h.log_is;
@@ -103,7 +101,6 @@ kept_until s c live log mine pending done n h line e =
       left = let f = ap flushes d in let g = h.left in omega arith;
       later = λ k. h.later k ∙ ap (λ l. after_flushes live.document l (suc k)) d;
       accepted = subst (AreLinesAccepted live.document) d h.accepted;
-      answered = h.answered;
       trees = h.trees;
       shown_is = h.shown_is;
       log_is = h.log_is;
@@ -137,7 +134,6 @@ kept_flush s c live log mine pending done published now batch notices longer h l
       left = let x = ap flushes d in let y = h.left in omega arith;
       later = λ k. let n : published + suc k ≡ c.published + suc (suc k) = omega arith in ap (document_at s) n ∙ (h.later (suc k) ∙ (ap (λ l. after_flushes live.document l (suc (suc k))) d ∙ ap (λ x. after_flushes x (drop done s.page) (suc k)) (sym same)));
       accepted = subst (λ x. AreLinesAccepted x (drop done s.page)) (sym same) (subst (AreLinesAccepted live.document) d h.accepted);
-      answered = h.answered;
       trees = h.trees;
       shown_is = ap (λ (x : LiveDocument). x.flushed) v ∙ (shown ∙ ap (tree_at s) (sym f));
       log_is = l ∙ ((λ i. h.log_is i ++ more i ∷ []) ∙ (sym (span-snoc (tree_at s) c.taken c.published h.taken_most) ∙ ap (λ k. span (tree_at s) c.taken k) (sym f)));
@@ -165,7 +161,6 @@ kept_take s c live log none mine now pending told more h e p n m =
       left = h.left;
       later = h.later;
       accepted = h.accepted;
-      answered = h.answered;
       trees = h.trees;
       shown_is = h.shown_is;
       log_is = e ∙ sym (span-none (tree_at s) c.published);
@@ -181,7 +176,6 @@ kept_told s c live log mine pending none h e = record {
   left = h.left;
   later = h.later;
   accepted = h.accepted;
-  answered = h.answered;
   trees = h.trees;
   shown_is = h.shown_is;
   log_is = h.log_is;
@@ -196,7 +190,3 @@ pub reply_from_tree : (s : Script) (c : State) (live : LiveDocument) (log : List
 unfolding answer_at
 reply_from_tree s c live log mine pending q (Ok r) h e = e ∙ ap (λ t. answer t q) h.mine_is
 reply_from_tree s c live log mine pending q (Err f) h e = e
-
--- what a line asks is answered
-pub line_answered : (xs : List ClientLine) (i : ℕ) (x : ClientLine) → AreAnswered xs → slice_get xs i ≡ Some x → IsTrue (is_answered_line x)
-line_answered xs i x h e = subst (λ y. IsTrue (is_answered_line y)) (get_or_from_slice_get xs i x x e) (All-get_or (λ y. IsTrue (is_answered_line y)) xs i x (slice_get_within xs i x e) h)

@@ -7,7 +7,7 @@ use Rattle.story_check.specs.Moments.{document_at, after_flushes, tree_at, AreLi
 use Rattle.change_log.specs.declared.log.LogEntry.{LogEntry}
 use Rattle.change_log.specs.Logs.{span}
 use Rattle.live_tree.specs.LiveTrees.{LiveDocument}
-use Rattle.ax_answer.specs.Moments.{AreAnswered, notices_of}
+use Rattle.ax_answer.specs.Moments.{notices_of}
 use Rattle.ax_world.specs.declared.turns.Turn.{Turn}
 use Rattle.ax_world.specs.Machine.{State, Step}
 
@@ -26,7 +26,6 @@ pub record IsKept (s : Script) (c : State) (live : LiveDocument) (log : List Log
   pub left : c.published + flushes (drop c.page_done s.page) ≡ flushes s.page
   pub later : (k : ℕ) → document_at s (c.published + suc k) ≡ after_flushes live.document (drop c.page_done s.page) (suc k)
   pub accepted : AreLinesAccepted live.document (drop c.page_done s.page)
-  pub answered : AreAnswered s.client
   pub trees : AreTrees s
   pub shown_is : live.flushed ≡ tree_at s c.published
   pub log_is : log ≡ span (tree_at s) c.taken c.published

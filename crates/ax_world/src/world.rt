@@ -3,9 +3,8 @@ ghost use Rattle.std.specs.Prelude.{◌≡◌, ℕ, ◌+◌, ◌↔◌, ◌≤�
 ghost use Rattle.story_check.specs.declared.story.PageLine.TheVariants.{Change, Flush, Until};
 ghost use Rattle.story_check.specs.Stories.{Script, flushes, stuck};
 ghost use Rattle.story_check.specs.Moments.{IsAccepted};
-ghost use Rattle.ax_answer.specs.Answers.{is_answered};
 ghost use Rattle.ax_ask.specs.declared.transcripts.EntryBody.TheVariants.{Reply as ReplyBody, Notices as NoticesBody};
-ghost use Rattle.ax_answer.specs.Moments.{answer_at, AreAnswered, notices_of};
+ghost use Rattle.ax_answer.specs.Moments.{answer_at, notices_of};
 ghost use Rattle.ax_answer.specs.Legal.{IsLegalTranscript};
 ghost use Rattle.ax_world.specs.Machine.{start, step, page_step, client_step, printed, IsOver, IsReached, InRounds, transcript_of, transcript_in_turns};
 ghost use Rattle.ax_world.specs.Worlds.{Gives};
@@ -58,10 +57,9 @@ impl Model for World {
 }
 
 impl World {
-    /// The core at moment 0, for a story whose edits are all accepted and whose requests are all answered.
+    /// The core at moment 0, for a story whose edits are all accepted.
     pub fn new(alloc: Global, story: &Story) -> Result<World, NoMemory>
         requires accepted { IsAccepted story.now }
-        requires answered { AreAnswered story.now.client }
         ensures { IfOk result (λ w. w ≡ record { story = story.now; state = start }) }
     {
         let document = base_dom(alloc, story)?;
@@ -236,7 +234,6 @@ impl World {
 
     /// What the client's tree answers.
     fn reply(&self, alloc: Global, request: &Request) -> Result<Reply, NoMemory>
-        requires { IsTrue (is_answered request.now) }
         ensures { IfOk result (λ r. r ≡ answer_at self.now.story self.now.state.taken request.now) }
     {
         answer(alloc, &self.mine, request)
@@ -246,7 +243,6 @@ impl World {
     fn replied(self, alloc: Global, request: &Request) -> Result<World, NoMemory>
         requires few { length self.story.client ≤ 16384 }
         requires line { self.state.client_done < length self.story.client }
-        requires answered { IsTrue (is_answered request.now) }
         ensures { IfOk result (λ w. w ≡ record { story = self.story; state = printed self.state self.state.taken (ReplyBody (answer_at self.story self.state.taken request.now)) }) }
     {
         let reply = self.reply(alloc, request)?;
@@ -295,11 +291,10 @@ impl World {
 }
 
 /// Plays a story that is not stuck: its turns, and then alternate turns until both sides are done. All its edits are
-/// accepted, and all its requests answered. Its transcript is legal. The only error is want of memory.
+/// accepted. Its transcript is legal. The only error is want of memory.
 pub fn replay(alloc: Global, story: &Story) -> Result<Transcript, NoMemory>
     requires free { stuck story.now ≡ false }
     requires accepted { IsAccepted story.now }
-    requires answered { AreAnswered story.now.client }
     ensures value { IfOk result (λ t. t ≡ transcript_of story.now) }
     ensures legal { IfOk result (λ t. IsLegalTranscript story.now t) }
 {
@@ -313,11 +308,10 @@ pub fn replay(alloc: Global, story: &Story) -> Result<Transcript, NoMemory>
 }
 
 /// Plays a story that is not stuck in alternate turns, the page first, and without its turn list. Its transcript is legal, as
-/// that of every order of turns. All its edits are accepted, and all its requests answered. The only error is want of memory.
+/// that of every order of turns. All its edits are accepted. The only error is want of memory.
 pub fn play_in_turns(alloc: Global, story: &Story) -> Result<Transcript, NoMemory>
     requires free { stuck story.now ≡ false }
     requires accepted { IsAccepted story.now }
-    requires answered { AreAnswered story.now.client }
     ensures value { IfOk result (λ t. t ≡ transcript_in_turns story.now) }
     ensures legal { IfOk result (λ t. IsLegalTranscript story.now t) }
 {

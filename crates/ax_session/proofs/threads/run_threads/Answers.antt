@@ -2,7 +2,6 @@ use Rattle.std.proofs.Common.{◌≡◌, ◌≤◌, length, sym, ap, ◌∙◌, 
 use Rattle.story_check.specs.Stories.{Script, flushes}
 use Rattle.story_check.specs.Moments.{tree_at, AreTrees}
 use Rattle.story_check.specs.declared.story.ClientLine.{ClientLine}
-use Rattle.ax_answer.specs.Moments.{AreAnswered}
 use Rattle.story_check.proofs.Trees.{are_trees}
 use Rattle.ax_session.proofs.Ending.{page_facts_at, client_facts_at, live_starts, tree_starts}
 use Rattle.ax_session.proofs.threads.run_threads.Goals as goal
@@ -21,7 +20,6 @@ pair-requires-clause-client g c κs within =
       lines.is ∙ ap (λ (s : Script). s.client) (sym made.stories.2),
       subst (λ l. length l ≤ 16384) (sym lines.is) lines.most,
       c.flushes.ensures.is ∙ ap (λ (s : Script). flushes s.page) (sym made.stories.2),
-      subst AreAnswered (sym lines.is) c.requires.answered,
       subst (λ (s : Script). AreTrees s) (sym made.stories.2) (are_trees c.args.story.now c.requires.accepted),
       tree_starts c.args.story.now c.in_ok-ports.client.story _ c.in_ok-live.live made.stories.2 c.in_ok-tree.ensures (live_starts c.args.story.now _ _ c.in_ok-live.ensures c.in_ok-document.ensures),
     )
