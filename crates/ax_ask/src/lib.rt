@@ -6,8 +6,6 @@ mod print;
 mod replies;
 mod requests;
 mod states;
-#[cfg(test)]
-mod tests;
 mod transcripts;
 mod words;
 

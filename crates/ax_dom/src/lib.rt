@@ -14,6 +14,3 @@ pub use cause::EditCause;
 pub use cell::Cell;
 pub use dom::Dom;
 pub use edit::Edit;
-
-#[cfg(test)]
-mod tests;

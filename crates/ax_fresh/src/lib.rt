@@ -4,8 +4,6 @@
 mod content;
 mod focus;
 mod frames;
-#[cfg(test)]
-mod tests;
 mod uncounted;
 mod walk;
 

@@ -21,8 +21,6 @@ mod said;
 mod session;
 mod shown;
 mod targets;
-#[cfg(test)]
-mod tests;
 
 pub use calls::{description_of, name_of};
 pub use hidden::is_hidden;

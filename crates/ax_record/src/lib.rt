@@ -10,8 +10,6 @@ mod ids;
 mod map;
 mod prop;
 mod record;
-#[cfg(test)]
-mod tests;
 mod view;
 mod wanted;
 

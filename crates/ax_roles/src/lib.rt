@@ -6,8 +6,6 @@ mod given;
 mod host;
 mod node;
 mod tables;
-#[cfg(test)]
-mod tests;
 
 pub use element::{focusable_of, hides, is_ignored, role_of};
 pub use node::{node_hides, node_is_ignored, node_role};

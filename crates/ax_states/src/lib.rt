@@ -5,8 +5,6 @@ mod flags;
 mod levels;
 mod lives;
 mod tables;
-#[cfg(test)]
-mod tests;
 mod values;
 
 pub use flags::states_of;

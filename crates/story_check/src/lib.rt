@@ -11,8 +11,6 @@ mod last;
 mod progress;
 mod refusals;
 mod story;
-#[cfg(test)]
-mod tests;
 mod waits;
 
 pub use acceptance::{accept, accept_last};

@@ -11,8 +11,6 @@ mod reading;
 mod requests;
 mod runs;
 mod searches;
-#[cfg(test)]
-mod tests;
 mod values;
 
 pub use reading::{Line, LineFail, read_line};

@@ -1,6 +1,6 @@
 //! What no clause says: that memory is not said to be missing, and how replies read that no story has yet. The others are
 //! compared on stories.
-use crate::{
+use ax_ask::{
     Entries, Entry, EntryBody, Marker, Placing, Reply, SearchKey, SearchKeys, Transcript,
     print_reply, print_transcript,
 };

@@ -1,6 +1,6 @@
 //! Each question once. The table's rows are compared on stories.
-use crate::{level_of, live_set_by, states_of, value_of};
 use ax_base::{Attrs, Live, Role, Text};
+use ax_states::{level_of, live_set_by, states_of, value_of};
 use std::alloc::Global;
 use std::test::Fail;
 

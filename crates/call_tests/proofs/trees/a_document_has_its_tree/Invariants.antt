@@ -1,4 +1,4 @@
-use Rattle.ax_fresh.proofs.tests.a_document_has_its_tree.Given as goal
+use Rattle.call_tests.proofs.trees.a_document_has_its_tree.Given as goal
 
 -- the ledger of the test is the blank one
 abbrev pub ghosts-look : goal.ghosts-look

@@ -3,8 +3,8 @@
 ghost use Rattle.std.specs.Prelude.{◌≡◌, IfOk};
 ghost use Rattle.ax_dom.specs.Bounds.{EditKeepsBounds};
 
-use crate::{Dom, Edit, EditCause};
 use ax_base::{Attrs, ObjId, Steps, Text};
+use ax_dom::{Dom, Edit, EditCause};
 use std::alloc::Global;
 use std::marker::Brand;
 use std::process::Abort;

@@ -1,8 +1,8 @@
 //! Each question once. The table's rows are compared on stories.
-use crate::{
+use ax_base::{Attrs, Role, Text};
+use ax_roles::{
     focusable_of, hides, is_ignored, name_prohibited, names_from_content, prunes, role_of,
 };
-use ax_base::{Attrs, Role, Text};
 use std::test::Fail;
 
 #[test]

@@ -1,9 +1,9 @@
 //! What no clause says: that memory is not said to be missing. What a tree holds is compared on stories.
 ghost use Rattle.std.specs.Prelude.{◌≡◌};
 
-use crate::build;
 use ax_base::{Attrs, ObjId, Steps, Text};
 use ax_dom::{Dom, Edit};
+use ax_fresh::build;
 use ax_record::TreeView;
 use std::alloc::Global;
 use std::marker::Brand;

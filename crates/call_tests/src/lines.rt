@@ -1,6 +1,6 @@
 //! What no clause says: that memory is not said to be missing. Which lines are read, and as what, is compared on stories.
-use crate::read_line;
 use std::alloc::Global;
+use story_lines::read_line;
 
 /// Whether a line is read as one that says something.
 fn is_read(alloc: Global, line: &str) -> bool {

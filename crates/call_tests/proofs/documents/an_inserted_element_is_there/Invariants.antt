@@ -1,4 +1,4 @@
-use Rattle.ax_dom.proofs.tests.an_inserted_element_is_there.Given as goal
+use Rattle.call_tests.proofs.documents.an_inserted_element_is_there.Given as goal
 
 -- the ledger of the test is the blank one
 abbrev pub ghosts-read : goal.ghosts-read

@@ -1,5 +1,5 @@
 //! What no clause says: that memory is not said to be missing. What names are is compared on stories.
-use crate::Piece;
+use ax_names::Piece;
 use std::test::Fail;
 
 #[test]

@@ -1,7 +1,7 @@
 //! What no clause says: that memory is not said to be missing. Which inputs are refused, and for what, is compared on stories.
-use crate::{accept, accept_last, base_dom, last_dom};
 use ax_base::ObjId;
 use std::test::Fail;
+use story_check::{accept, accept_last, base_dom, last_dom};
 
 /// Takes what may be handed to another thread.
 fn needs_send<T: Send>(_: &T) {}

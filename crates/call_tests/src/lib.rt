@@ -1,0 +1,22 @@
+//! Calls of the lower crates, each once with ample memory: that it is not said to be missing is what no clause says. They stand
+//! in a crate of their own, since a crate that has tests is proved twice.
+#![tactic(auto)]
+
+#[cfg(test)]
+mod documents;
+#[cfg(test)]
+mod lines;
+#[cfg(test)]
+mod names;
+#[cfg(test)]
+mod records;
+#[cfg(test)]
+mod replies;
+#[cfg(test)]
+mod roles;
+#[cfg(test)]
+mod states;
+#[cfg(test)]
+mod stories;
+#[cfg(test)]
+mod trees;
