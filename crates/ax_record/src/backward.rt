@@ -5,10 +5,9 @@ ghost use Rattle.ax_record.specs.Tree.{has_object, preorder};
 ghost use Rattle.ax_record.specs.ObjectTrees.{IsObjectTree};
 ghost use Rattle.ax_record.specs.Orders.{wanted_at, back_within, back_below, before};
 
-use crate::Wanted;
 use crate::forward::LEVELS;
+use crate::{TreeView, Wanted};
 use ax_base::ObjId;
-use crate::TreeView;
 
 /// The last object in preorder that is wanted, or `None` where none is. It goes from the last object backward. The only
 /// error is that of the test.

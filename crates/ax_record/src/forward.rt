@@ -5,9 +5,8 @@ ghost use Rattle.ax_record.specs.Tree.{has_object, objects_within, preorder};
 ghost use Rattle.ax_record.specs.ObjectTrees.{IsObjectTree};
 ghost use Rattle.ax_record.specs.Orders.{wanted_at, after};
 
-use crate::Wanted;
+use crate::{TreeView, Wanted};
 use ax_base::ObjId;
-use crate::TreeView;
 
 /// How far below the root a walk goes. No object is deeper.
 pub(crate) const LEVELS: u32 = 128;

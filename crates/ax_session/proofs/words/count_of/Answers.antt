@@ -18,7 +18,7 @@ returns-in-Ok-clause-range c =
     let digits : are_digits 4 c.args.word.now ≡ true = ap (are_digits 4) (sym c.as_bytes.ensures.value) ∙ sym c.are_digits.ensures ∙ held in
     let front : has_zero_in_front c.args.word.now ≡ false = ap has_zero_in_front (sym c.as_bytes-else-not-are_digits.ensures.value) ∙ sym c.has_zero_in_front.ensures ∙ c.if-has_zero_in_front.false in
     subst (λ o. IfSome o (λ n. (1 ≤ n) × (n ≤ 1000))) (sym c.at_most_thousand.ensures)
-        (bounded c.in-Ok.count (in_range c.args.word.now c.parse.result c.in-Ok.count c.parse.ensures.value.0 digits front c.in-Ok.is))
+    (bounded c.in-Ok.count (in_range c.args.word.now c.parse.result c.in-Ok.count c.parse.ensures.value.0 digits front c.in-Ok.is))
 
 pub returns-in-Err-clause-form : goal.returns-in-Err-clause-form
 returns-in-Err-clause-form c =
