@@ -1,12 +1,12 @@
 #!/usr/bin/env python3
 """Tests of the tools for pages.
 
-    tools/pages/tests.py PROGRAM
+    tools/pages/tests.py [--recorded] PROGRAM
 
 PROGRAM is an axcore program. Random documents are led from one to the next, and the recorded stories of examples/pages are
 compared with the second model and shown. Where Chromium is there, pages are recorded as well: three plain ones, which are also
-compared, and some that are meant to do harm. Where it isn't, a line says that they were left out. It ends with status 1 if a
-test fails.
+compared, and some that are meant to do harm. Where it isn't, or with --recorded, a line says that they were left out. It ends with
+status 1 if a test fails.
 """
 import glob
 import json
@@ -310,12 +310,23 @@ def test_refusals(folder):
 
 
 def main():
-    if len(sys.argv) != 2:
+    words = [word for word in sys.argv[1:] if word != "--recorded"]
+    if len(words) != 1:
         sys.exit(__doc__)
-    program = os.path.abspath(sys.argv[1])
+    program = os.path.abspath(words[0])
     test_differences()
     test_deep_move()
     test_recorded_stories()
+    if "--recorded" in sys.argv:
+        print("pages in Chromium: left out, as asked")
+    else:
+        test_in_browser(program)
+    print("tools for pages: %s" % ("%d failed" % len(FAILURES) if FAILURES else "everything passed"))
+    sys.exit(1 if FAILURES else 0)
+
+
+def test_in_browser(program):
+    """The tests that need Chromium; a line says so where it isn't there."""
     with tempfile.TemporaryDirectory() as name:
         folder = Folder(name)
         _, trouble, status = run_tool("record", folder.file("page.html", ""))
@@ -327,8 +338,6 @@ def main():
             test_back(program, folder)
             test_leaving(program, folder)
             test_refusals(folder)
-    print("tools for pages: %s" % ("%d failed" % len(FAILURES) if FAILURES else "everything passed"))
-    sys.exit(1 if FAILURES else 0)
 
 
 if __name__ == "__main__":
