@@ -7,8 +7,6 @@ ghost use Rattle.ax_base.specs.declared.ids.Who.{Who};
 ghost use Rattle.ax_answer.specs.Legal.{IsLegalSoFar, IsLegalTranscript};
 ghost use Rattle.ax_world.specs.Machine.{start, after_turns, alternate, lines_done, IsOver, played, transcript_of};
 
-#[cfg(test)]
-mod tests;
 mod turns;
 mod world;
 

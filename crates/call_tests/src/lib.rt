@@ -3,9 +3,19 @@
 #![tactic(auto)]
 
 #[cfg(test)]
+mod batches;
+#[cfg(test)]
 mod documents;
 #[cfg(test)]
+mod generated;
+#[cfg(test)]
+mod isolated_trees;
+#[cfg(test)]
 mod lines;
+#[cfg(test)]
+mod live_trees;
+#[cfg(test)]
+mod logs;
 #[cfg(test)]
 mod names;
 #[cfg(test)]
@@ -20,3 +30,5 @@ mod states;
 mod stories;
 #[cfg(test)]
 mod trees;
+#[cfg(test)]
+mod worlds;

@@ -3,7 +3,5 @@
 
 mod isolated;
 mod records;
-#[cfg(test)]
-mod tests;
 
 pub use isolated::Isolated;

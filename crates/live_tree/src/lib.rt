@@ -2,7 +2,5 @@
 #![tactic(auto)]
 
 mod live;
-#[cfg(test)]
-mod tests;
 
 pub use live::{Flushed, LiveTree, flush_uncounted};

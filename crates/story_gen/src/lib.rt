@@ -3,8 +3,6 @@
 #![tactic(auto)]
 
 mod lines;
-#[cfg(test)]
-mod tests;
 mod whole;
 
 pub use whole::generate;

@@ -1,12 +1,12 @@
 //! A page to which a button is added, flushed.
 ghost use Rattle.std.specs.Prelude.{◌≡◌};
 
-use crate::{Flushed, LiveTree};
 use ax_base::{Attrs, Moment, Notice, NoticeKind, ObjId, Steps, Text};
 use ax_batch::{Batch, batch_between, batch_leads};
 use ax_dom::{Dom, Edit, EditCause};
 use ax_notice::notices_between;
 use ax_record::TreeView;
+use live_tree::{Flushed, LiveTree};
 use std::alloc::Global;
 use std::marker::Brand;
 use std::process::Abort;

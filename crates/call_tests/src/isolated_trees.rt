@@ -2,10 +2,10 @@
 ghost use Rattle.std.specs.Prelude.{◌≡◌, [], None};
 ghost use Rattle.ax_record.specs.ObjectTrees.{HasFittingText, KeepsBounds};
 
-use crate::Isolated;
 use ax_base::{Ids, Live, ObjId, Rect, Role, Runs, States, Text};
 use ax_record::{FreshTree, Record, RecordMap, TreeView};
 use change_log::ChangeLog;
+use isolated_map::Isolated;
 use std::alloc::Global;
 use std::test::Fail;
 

@@ -1,9 +1,9 @@
 //! Small stories without edits.
 ghost use Rattle.std.specs.Prelude.{◌≡◌};
 
-use crate::{Turn, World, replay};
 use ax_ask::{Entry, EntryBody, Reply, Request};
 use ax_base::{Moment, ObjId, Who};
+use ax_world::{Turn, World, replay};
 use std::test::Fail;
 use story_check::{ClientLine, PageLine, Story, stuck};
 

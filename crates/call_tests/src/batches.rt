@@ -1,8 +1,8 @@
 //! Each list once. Batches of trees are in the crates that make trees.
 ghost use Rattle.std.specs.Prelude.{◌≡◌};
 
-use crate::{Change, Changes, Records};
 use ax_base::{Ids, Live, ObjId, Rect, Role, Runs, States, Text};
+use ax_batch::{Change, Changes, Records};
 use ax_record::{PropList, Record};
 use std::alloc::Global;
 use std::test::Fail;

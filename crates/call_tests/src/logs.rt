@@ -1,9 +1,9 @@
 //! Each public function once.
 ghost use Rattle.std.specs.Prelude.{◌≡◌};
 
-use crate::{ChangeLog, LogEntry};
 use ax_base::{Ids, Moment, Notice, NoticeKind, Notices, ObjId};
 use ax_batch::{Batch, Changes, Records};
+use change_log::{ChangeLog, LogEntry};
 use std::alloc::Global;
 use std::test::Fail;
 

@@ -1,5 +1,5 @@
 use Rattle.isolated_map.proofs.LoneRoot.{lone_entries}
-use Rattle.isolated_map.proofs.tests.lone_root.Goals as goal
+use Rattle.call_tests.proofs.isolated_trees.lone_root.Goals as goal
 
 pub new-tree-requires : goal.new-tree-requires
 new-tree-requires c =
