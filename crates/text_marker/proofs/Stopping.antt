@@ -57,6 +57,13 @@ module _ (offset : ℕ) where
   none_high at (p ∷ ps) high =
       back_step at p ps ∙ ap (λ o. option_or o (find below (at ∷ []))) (none_high (at + length (chars p)) ps (omega arith)) ∙ alone_high at high
 
+  pub back_start : (text : List ℕ) (ps : List (List ℕ)) → ps ≡ graphemes true text → find below (reverse (stops_of text)) ≡ option_or (find below (reverse (stops_from 0 ps))) None
+  back_start text ps is = sym (ap (λ l. option_or (find below (reverse (stops_from 0 l))) None) is ∙ go (find below (reverse (stops_of text))))
+    where
+      go : (o : Option ℕ) → option_or o None ≡ o
+      go None = refl
+      go (Some x) = refl
+
   -- the stops that are left are none below the offset
   pub back_found : (at : ℕ) (ps : List (List ℕ)) (whole so_far : Option ℕ) → offset ≤ at → whole ≡ option_or (find below (reverse (stops_from at ps))) so_far → so_far ≡ whole
   back_found at ps whole so_far high e = sym (e ∙ ap (λ o. option_or o so_far) (none_high at ps high))

@@ -1,5 +1,5 @@
 -- What the calls on markers answer, with their refusals in their order.
-use Rattle.std.specs.Prelude.{◌≡◌, ℕ, Bool, ◌||◌, nat_lt, List, length, Result, Ok, Err, encode_utf8_all, if◌then◌else◌, ⊤}
+use Rattle.std.specs.Prelude.{◌≡◌, ℕ, ◌||◌, nat_lt, List, length, Option, Some, None, Result, Ok, Err, encode_utf8_all, if◌then◌else◌, ⊤}
 use Rattle.ax_base.specs.Characters.{Chars}
 use Rattle.ax_ask.specs.declared.requests.Marker.{Marker}
 use Rattle.ax_record.specs.Tree.{Tree}
@@ -8,17 +8,26 @@ use Rattle.text_marker.specs.Ranges.{range_words}
 use Rattle.text_marker.specs.declared.errors.MarkError.{MarkError}
 use Rattle.text_marker.specs.declared.errors.MarkError.TheVariants.{Stale, Out, Long, NoMemory}
 
--- stale comes first, then out, and then the answer
-abbrev pub unless : {A : Type 0} → Bool → Bool → Result A MarkError → Result A MarkError
-unless stale out answer = if stale then Err Stale else (if out then Err Out else answer)
+-- why a marker has no answer: stale comes first, then out
+abbrev pub refusal : Tree → Marker → Option MarkError
+refusal t m = if is_stale t m then Some Stale else (if is_out t m then Some Out else None)
+
+-- why two markers have none: stale where either is stale, else out where either is out
+abbrev pub refusal_of_both : Tree → Marker → Marker → Option MarkError
+refusal_of_both t a b = if is_stale t a || is_stale t b then Some Stale else (if is_out t a || is_out t b then Some Out else None)
+
+-- a refusal goes before the answer
+abbrev pub unless : {A : Type 0} → Option MarkError → Result A MarkError → Result A MarkError
+unless None answer = answer
+unless (Some e) answer = Err e
 
 -- what a call about one marker answers
 abbrev pub answered : {A : Type 0} → Tree → Marker → A → Result A MarkError
-answered t m value = unless (is_stale t m) (is_out t m) (Ok value)
+answered t m value = unless (refusal t m) (Ok value)
 
--- what a call about two markers answers: stale where either is stale, else out where either is out
+-- what a call about two markers answers
 abbrev pub answered_both : {A : Type 0} → Tree → Marker → Marker → Result A MarkError → Result A MarkError
-answered_both t a b answer = unless (is_stale t a || is_stale t b) (is_out t a || is_out t b) answer
+answered_both t a b answer = unless (refusal_of_both t a b) answer
 
 -- more than 4,096 characters are long
 abbrev pub unless_long : List ℕ → Result Chars MarkError

@@ -1,5 +1,5 @@
 -- Where a marker can stop in a text, and where its words begin (UAX #29, sections 3 and 4).
-use Rattle.std.specs.Prelude.{ℕ, ◌+◌, List, [], ◌∷◌, ◌++◌, length, bytes_eq, chars, if◌then◌else◌}
+use Rattle.std.specs.Prelude.{ℕ, ◌+◌, true, List, [], ◌∷◌, ◌++◌, length, bytes_eq, chars, if◌then◌else◌}
 use Rattle.std.specs.List.{list_any}
 use Rattle.unicode_segmentation.specs.Grapheme.{graphemes}
 use Rattle.unicode_segmentation.specs.Segments.{has_alphanumeric}

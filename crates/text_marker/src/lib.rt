@@ -2,7 +2,14 @@
 #![tactic(auto)]
 
 mod errors;
+mod lines;
+mod moves;
+mod placing;
+mod standing;
 mod stops;
 mod words;
 
 pub use errors::MarkError;
+pub use lines::line_range;
+pub use moves::{next_char, next_word, prev_char};
+pub use placing::compare;
