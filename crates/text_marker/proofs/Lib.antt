@@ -7,4 +7,5 @@ pub mod Moving
 pub mod Wording
 pub mod Order
 pub mod Stretches
+pub mod Going
 pub mod Rows

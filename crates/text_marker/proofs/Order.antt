@@ -1,6 +1,6 @@
 -- Which of two texts comes first, by a walk from the one to the other.
-use Rattle.std.proofs.Common.{◌≡◌, ℕ, ◌<◌, ◌≤◌, List, [], ◌∷◌, ◌++◌, filter, reverse, Contains, Bool, true, false, cond, eqb, nat_lt, refl, sym, ap, subst, ◌∙◌, arith, inl, inr, is_some, lt-ltb, le-ltb}
-use Rattle.std.specs.Prelude.{find, Option, Some, None, ◌==◌}
+use Rattle.std.proofs.Common.{◌≡◌, ℕ, ◌<◌, ◌≤◌, List, [], ◌∷◌, ◌++◌, filter, reverse, Contains, Bool, true, false, cond, eqb, nat_lt, refl, sym, ap, subst, ◌∙◌, arith, ◌⊎◌, inl, inr, is_some, lt-ltb, le-ltb}
+use Rattle.std.specs.Prelude.{find, Option, Some, None, Ok, ◌==◌}
 use Rattle.std.specs.Option.{option_map_or}
 use Rattle.std.proofs.lemmas.Bool.{false≢true}
 use Rattle.std.proofs.lemmas.Bool.Decides.{eqb_tells}
@@ -17,6 +17,10 @@ use Rattle.ax_walk.proofs.Lists.{parted}
 use Rattle.text_order.specs.Texts.{is_text, later_texts, earlier_texts, place}
 use Rattle.text_order.proofs.Filters.{kept, filter_found, filter-reverse}
 use Rattle.text_order.proofs.Laters.{text_known}
+use Rattle.ax_ask.specs.declared.requests.Marker.{Marker}
+use Rattle.ax_ask.specs.declared.replies.Placing.{Placing}
+use Rattle.text_marker.specs.Markers.{placing}
+use Rattle.text_marker.specs.Answers.{refusal_of_both, unless, answered_both}
 use Rattle.text_marker.proofs.Places.{earlier_place, later_place}
 
 module _ (q : ℕ → Bool) where
@@ -94,3 +98,7 @@ module _ (t : Tree) (hangs : IsObjectTree t) where
           | inl (same, is) ↦ sym (behind (subst (Contains (after a (preorder t))) is inside))
           | inr (off, apart) ↦ absurd (false≢true (sym off ∙ sym (told b y (found_known b y f.0)) ∙ f.0))
         ]
+
+-- what is answered of two markers that are not refused
+pub answered_two : (t : Tree) (a b : Marker) (placed : Placing) → refusal_of_both t a b ≡ None → placed ≡ placing t a b → Ok placed ≡ answered_both t a b (Ok (placing t a b))
+answered_two t a b placed stand is = ap (λ p. Ok p) is ∙ sym (ap (λ e. unless e (Ok (placing t a b))) stand)

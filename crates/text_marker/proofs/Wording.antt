@@ -1,7 +1,7 @@
 -- Where words begin, and the stops of a text side by side with that.
-use Rattle.std.proofs.Common.{◌≡◌, ◌≢◌, ℕ, ◌+◌, ◌<◌, ◌≤◌, List, [], ◌∷◌, ◌++◌, filter, length, Bool, true, false, cond, ◌&&◌, ◌||◌, nat_le, refl, sym, ap, subst, ◌∙◌, arith, append_assoc, chars, inl, inr}
+use Rattle.std.proofs.Common.{◌≡◌, ◌≢◌, ℕ, ◌+◌, ◌<◌, ◌≤◌, List, [], ◌∷◌, ◌++◌, filter, length, Bool, true, false, cond, ◌&&◌, ◌||◌, nat_le, refl, sym, ap, subst, ◌∙◌, arith, append_assoc, chars, IsUtf8}
 use Rattle.std.specs.Prelude.{find, Option, Some, None, nat_eq, bytes_eq}
-use Rattle.std.specs.List.{list_any}
+use Rattle.std.specs.List.{list_any, concat}
 use Rattle.std.proofs.lemmas.Bool.{false≢true}
 use Rattle.std.proofs.lemmas.Bool.Decides.{nat_tests}
 use Rattle.std.proofs.lemmas.List.Elements.{filter-append}
@@ -9,7 +9,8 @@ use Rattle.std.proofs.lemmas.List.Folds.{list_any-append}
 use Rattle.std.proofs.lemmas.Map.Views.{any-filter_same}
 use Rattle.std.proofs.lemmas.Slice.Eq.{bytes_eq-Decides}
 use Rattle.unicode_segmentation.specs.Segments.{has_alphanumeric}
-use Rattle.unicode_segmentation.specs.Word.{words, word_bounds}
+use Rattle.unicode_segmentation.specs.Word.{words, word_bounds, is_word_break}
+use Rattle.unicode_segmentation.proofs.SegmentsLemmas.{concat-segments}
 use Rattle.unicode_segmentation.specs.Grapheme.{graphemes}
 use Rattle.text_marker.specs.Stops.{stops_from, stops_of, begins_from, word_begins, word_begins_from}
 use Rattle.text_marker.proofs.Finding.{skips, takes}
@@ -173,3 +174,14 @@ module _ (from : ℕ) where
   pub words_start_none : (text : List ℕ) (gs : List (List ℕ)) → gs ≡ graphemes true text
       → ((q : ℕ → Bool) → ((s : ℕ) → s < from → q s ≡ false) → find q (stops_from 0 gs) ≡ None) → None ≡ find (begins (word_begins text)) (stops_of text)
   words_start_none text gs same law = sym (ap (λ l. find (begins (word_begins text)) (stops_from 0 l)) (sym same) ∙ law (begins (word_begins text)) (below_from (word_begins text)))
+
+-- the pieces between word boundaries have no more bytes than the text
+pub bounds_fit : (text : List ℕ) → IsUtf8 text → (pieces : List (List ℕ)) → pieces ≡ word_bounds text → 0 + length (concat pieces) ≤ length text
+bounds_fit text utf8 pieces is = let e = ap (λ l. length (concat l)) is ∙ ap length (concat-segments is_word_break text utf8) in omega arith
+
+-- what a test of two texts tells
+pub told_same : (b : Bool) (p w : List ℕ) → b ≡ bytes_eq p w → b ≡ true → p ≡ w
+told_same b p w e holds = (bytes_eq-Decides p w).0 (sym e ∙ holds)
+
+pub told_apart : (b : Bool) (p w : List ℕ) → b ≡ bytes_eq p w → b ≡ false → p ≢ w
+told_apart b p w e fails = λ same. false≢true (sym fails ∙ e ∙ (bytes_eq-Decides p w).1 same)

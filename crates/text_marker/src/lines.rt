@@ -43,14 +43,21 @@ fn run_at(runs: &[Run], offset: u32, count: u32) -> Option<usize>
         (λ own. (own < length runs.now) × (find (is_run_of offset count) (take own runs.now) ≡ None)
             × ((r : Run) → slice_get runs.now own ≡ Some r → is_run_of offset count r ≡ true)) }
 {
-    for (i, run) in runs.iter().enumerate() {
-        let has = run.first <= offset && offset < run.past;
-        let ends = run.past == count && offset == count;
-        if has || ends {
-            return Some(i);
+    let mut own = 0;
+    while own < runs.len() {
+        if is_own(&runs[own], offset, count) {
+            return Some(own);
         }
+        own += 1;
     }
     None
+}
+
+/// Whether a run is that of an offset of a text of so many characters.
+fn is_own(run: &Run, offset: u32, count: u32) -> bool
+    ensures { result ≡ is_run_of offset count run.now }
+{
+    (run.first <= offset && offset < run.past) || (run.past == count && offset == count)
 }
 
 /// Where a line begins that goes back from an offset of a text: before the last of the runs from there on, going back, that are of
