@@ -117,7 +117,7 @@ module _ (t : Tree) (hangs : IsObjectTree t) (m : Marker) (r : Record) (s : List
       let high = later_place t hangs m.id text k (subst (λ l. Contains l k) (sym later) (Contains-head k (later_texts t k))) in
       let here : find (is_above t m) (stops_at t k) ≡ Some (mark k 0) = ap (λ l. find (is_above t m) (map (mark k) l)) f.1 ∙ takes (is_above t m) (mark k 0) (map (mark k) f.0) (upper t m (mark k 0) high) in
       answer (Some (mark k 0)) ∙ ap (answered t m) (sym (not_here (is_above t m) (λ stop. nat_lt m.offset stop) (λ s fails. fails) levels e
-          ∙ ap (λ l. find (is_above t m) (flat_map (stops_at t) l)) later ∙ in_front (is_above t m) (stops_at t k) (flat_map (stops_at t) (later_texts t k)) (mark k 0) here))
+      ∙ ap (λ l. find (is_above t m) (flat_map (stops_at t) l)) later ∙ in_front (is_above t m) (stops_at t k) (flat_map (stops_at t) (later_texts t k)) (mark k 0) here))
 
   pub next_none : None ≡ find (λ stop. nat_lt m.offset stop) (stops_of s) → later_texts t m.id ≡ [] → Ok None ≡ answered t m (next_char t m)
   unfolding back
@@ -191,7 +191,7 @@ module _ (t : Tree) (hangs : IsObjectTree t) (m : Marker) (r : Record) (s : List
       let there = ap (place t) at in
       let here : find is_below (reverse (stops_at t k)) ≡ Some z = ap (find is_below) ends ∙ takes is_below z rest (upper t z m (omega arith)) in
       answer (Some z) ∙ ap (answered t m) (sym (past_own e ∙ ap (λ l. find is_below (flat_map (λ k. reverse (stops_at t k)) l)) earlier
-          ∙ in_front is_below (reverse (stops_at t k)) (flat_map (λ k. reverse (stops_at t k)) (earlier_texts t k)) z here))
+      ∙ in_front is_below (reverse (stops_at t k)) (flat_map (λ k. reverse (stops_at t k)) (earlier_texts t k)) z here))
 
   pub prev_none : None ≡ find (λ stop. nat_lt stop m.offset) (reverse (stops_of s)) → earlier_texts t m.id ≡ [] → Ok None ≡ answered t m (prev_char t m)
   prev_none e earlier = answer None ∙ ap (answered t m) (sym (past_own e ∙ ap (λ l. find is_below (flat_map (λ k. reverse (stops_at t k)) l)) earlier))

@@ -19,7 +19,7 @@ use Rattle.text_marker.proofs.Sizes.{bytes_at_most}
 pub text_fits : (t : Tree) (hangs : IsObjectTree t) (n : ℕ) (r : Record) (s : List ℕ) → Some r ≡ record_at t n → s ≡ unwrap_or r.text [] → IsUtf8 s → length s ≤ 262144
 text_fits t hangs n r s rec is utf8 = go r.text (hangs.texts n r (sym rec)) is
   where
-    go : (o : Option (List ℕ)) → HasFittingText (record r {text = o}) → s ≡ unwrap_or o [] → length s ≤ 262144
+    go : (o : Option (List ℕ)) → HasFittingText (record r { text = o }) → s ≡ unwrap_or o [] → length s ≤ 262144
     go None fits e = let none = ap length e in omega arith
     go (Some c) fits e = let most = bytes_at_most s utf8 in let same = ap (λ l. length (chars l)) e in let few = fits.1 in omega arith
 
@@ -44,7 +44,7 @@ accepted_offset t m e = go (has_object t m.id) (is_text t m.id) (nat_le m.offset
 pub offset_low : (t : Tree) (hangs : IsObjectTree t) (m : Marker) (r : Record) → Some r ≡ record_at t m.id → refusal t m ≡ None → m.offset ≤ 65536
 offset_low t hangs m r rec stands = go r.text (hangs.texts m.id r (sym rec)) (subst (λ l. m.offset ≤ length (chars l)) (sym (text_is t m.id r (unwrap_or r.text []) rec refl)) (accepted_offset t m stands))
   where
-    go : (o : Option (List ℕ)) → HasFittingText (record r {text = o}) → m.offset ≤ length (chars (unwrap_or o [])) → m.offset ≤ 65536
+    go : (o : Option (List ℕ)) → HasFittingText (record r { text = o }) → m.offset ≤ length (chars (unwrap_or o [])) → m.offset ≤ 65536
     go None fits low = let none = ap length chars-nil in omega arith
     go (Some c) fits low = let few = fits.1 in omega arith
 

@@ -34,7 +34,7 @@ fn go_to(pieces: &mut Graphemes, at: u32, target: u32) -> Option<u32>
     ensures { MatchOption result
         ((q : ℕ → Bool) → ((s : ℕ) → s < target → q s ≡ false) → find q (stops_from at (graphemes_left pieces.old)) ≡ None)
         (λ stop. (target ≤ stop) × (at ≤ stop) × (stop + length (concat (graphemes_left pieces.new)) < 2 ^ 32)
-            × ((q : ℕ → Bool) → ((s : ℕ) → s < target → q s ≡ false) → find q (stops_from at (graphemes_left pieces.old)) ≡ find q (stops_from stop (graphemes_left pieces.new)))) }
+        × ((q : ℕ → Bool) → ((s : ℕ) → s < target → q s ≡ false) → find q (stops_from at (graphemes_left pieces.old)) ≡ find q (stops_from stop (graphemes_left pieces.new)))) }
 {
     let mut at = at;
     if target <= at {
@@ -56,8 +56,8 @@ fn next_begin(bounds: &mut UWordBounds, words: &mut UnicodeWords, at: u32) -> Op
     ensures { MatchOption result
         (word_begins_from at (word_bounds_left bounds.old) ≡ [])
         (λ next. (word_begins_from at (word_bounds_left bounds.old) ≡ next.0 ∷ word_begins_from next.1 (word_bounds_left bounds.new))
-            × (next.0 ≤ next.1) × (next.1 + length (concat (word_bounds_left bounds.new)) < 2 ^ 32)
-            × (filter has_alphanumeric (word_bounds_left bounds.new) ≡ unicode_words_left words.new)) }
+        × (next.0 ≤ next.1) × (next.1 + length (concat (word_bounds_left bounds.new)) < 2 ^ 32)
+        × (filter has_alphanumeric (word_bounds_left bounds.new) ≡ unicode_words_left words.new)) }
 {
     let word = words.next()?;
     let mut at = at;

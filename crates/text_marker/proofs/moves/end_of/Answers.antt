@@ -14,6 +14,8 @@ count-requires g c =
 pub returns-in-Some-clause-last : goal.returns-in-Some-clause-last
 returns-in-Some-clause-last g c =
     let last = last_stop c.text_of.result.now c.text_of.utf8 in
-    let same = text_is (g.T.TreeView.tree c.args.t.now) c.args.id c.in-Some.object.now c.text_of.result.now c.in-Some.ensures.value c.text_of.ensures in
-    (map (mark c.args.id) last.0, reverse-map (mark c.args.id) (stops_of (text_at (g.T.TreeView.tree c.args.t.now) c.args.id)) ∙ ap (λ s. map (mark c.args.id) (reverse (stops_of s))) (sym same) ∙ ap (map (mark c.args.id)) last.1
-        ∙ ap (λ n. mark c.args.id n ∷ map (mark c.args.id) last.0) (sym c.count.ensures.value))
+    let same = text_is (g.T.TreeView.tree c.args.t.now) c.args.id c.in-Some.object.now c.text_of.result.now c.in-Some.ensures.value c.text_of.ensures in (
+      map (mark c.args.id) last.0,
+      reverse-map (mark c.args.id) (stops_of (text_at (g.T.TreeView.tree c.args.t.now) c.args.id)) ∙ ap (λ s. map (mark c.args.id) (reverse (stops_of s))) (sym same) ∙ ap (map (mark c.args.id)) last.1
+          ∙ ap (λ n. mark c.args.id n ∷ map (mark c.args.id) last.0) (sym c.count.ensures.value),
+    )

@@ -26,7 +26,7 @@ loop-begin-init c =
 pub returns-in_err-stop-2 : goal.returns-in_err-stop-2
 returns-in_err-stop-2 c =
     c.from_residual-in_err-stop-2.ensures ∙ sym (c.loop-begin.invariant.0 ∙ c.in_err-stop-2.ensures (begins c.args.from (word_begins_from c.loop-begin.at (word_bounds_left c.loop-begin.bounds)))
-        (below_begin c.args.from c.in-Some.begin c.in-Some.past (word_bounds_left c.next_begin.new.bounds) (word_begins_from c.loop-begin.at (word_bounds_left c.loop-begin.bounds)) c.in-Some.ensures.0 c.in-Some.ensures.1))
+    (below_begin c.args.from c.in-Some.begin c.in-Some.past (word_bounds_left c.next_begin.new.bounds) (word_begins_from c.loop-begin.at (word_bounds_left c.loop-begin.bounds)) c.in-Some.ensures.0 c.in-Some.ensures.1))
 
 pub returns-then-stop-begin : goal.returns-then-stop-begin
 returns-then-stop-begin c =
