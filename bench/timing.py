@@ -1,9 +1,7 @@
 """Runs a program on a story and measures it."""
-import os
 import subprocess
 import sys
 import tempfile
-import time
 
 RUNS = 5
 READER = "import json,sys\nfor line in sys.stdin.buffer:\n    json.loads(line)\n"
@@ -16,20 +14,28 @@ class Measure:
         self.seconds, self.processor, self.memory = seconds, processor, memory
 
 
+# What a child's peak memory is told to be begins with that of the process which started it, so a small one starts the program.
+STARTER = """import os, subprocess, sys, time
+with open(sys.argv[1], "rb") as source:
+    start = time.perf_counter()
+    child = subprocess.Popen(sys.argv[2:], stdin=source, stdout=subprocess.DEVNULL)
+    _, ended, usage = os.wait4(child.pid, 0)
+    took = time.perf_counter() - start
+print(os.waitstatus_to_exitcode(ended), took, usage.ru_utime + usage.ru_stime, usage.ru_maxrss * 1024)
+"""
+
+
 def run(words, path, runs=RUNS, status=0):
     """The words on the file as standard input."""
     wall, processor, peak = [], [], 0
     for _ in range(runs):
-        with open(path, "rb") as source:
-            start = time.perf_counter()
-            child = subprocess.Popen(words, stdin=source, stdout=subprocess.DEVNULL)
-            _, ended, usage = os.wait4(child.pid, 0)
-            took = time.perf_counter() - start
-        if os.waitstatus_to_exitcode(ended) != status:
-            sys.exit("%s: status %d" % (" ".join(words), os.waitstatus_to_exitcode(ended)))
-        wall.append(took)
-        processor.append(usage.ru_utime + usage.ru_stime)
-        peak = usage.ru_maxrss * 1024
+        started = subprocess.run([sys.executable, "-I", "-S", "-c", STARTER, path, *words], stdout=subprocess.PIPE, text=True, check=True)
+        ended, took, busy, memory = started.stdout.split()
+        if int(ended) != status:
+            sys.exit("%s: status %s" % (" ".join(words), ended))
+        wall.append(float(took))
+        processor.append(float(busy))
+        peak = int(memory)
     return Measure(min(wall), min(processor), peak)
 
 

@@ -1,15 +1,18 @@
 -- What a tree answers to a request (Core Accessibility API Mappings 1.2, section 5: mapping WAI-ARIA to accessibility APIs).
-use Rattle.std.specs.Prelude.{ℕ, ◌-◌, ◌^◌, min, Bool, true, false, List, length, take, drop, Option, Some, None}
+use Rattle.std.specs.Prelude.{ℕ, Bool, true, false, if◌then◌else◌, List, [], ◌∷◌, length, take, drop, Option, Some, None}
 use Rattle.std.specs.Option.{option_map_or}
 use Rattle.ax_base.specs.Document.{root}
 use Rattle.ax_ask.specs.declared.requests.Request.{Request}
 use Rattle.ax_ask.specs.declared.requests.Request.TheVariants.{Root, Focus, Role, Name, Description, Value, States, Level, Live, Frame, Parent, Children, Compare, NextChar, PrevChar, NextWord, LineAt, TextOf, BoundsOf, Search, Hit}
+use Rattle.ax_ask.specs.declared.requests.SearchRequest.{SearchRequest}
 use Rattle.ax_ask.specs.declared.replies.Reply.{Reply}
-use Rattle.ax_ask.specs.declared.replies.Reply.TheVariants.{Stale, Nothing, Root as TheRoot, Focus as TheFocus, Role as TheRole, Name as TheName, Description as TheDescription, Value as TheValue, States as TheStates, Level as TheLevel, Live as TheLive, Frame as TheFrame, Parent as TheParent, Children as TheChildren}
+use Rattle.ax_ask.specs.declared.replies.Reply.TheVariants.{Stale, Nothing, Root as TheRoot, Focus as TheFocus, Role as TheRole, Name as TheName, Description as TheDescription, Value as TheValue, States as TheStates, Level as TheLevel, Live as TheLive, Frame as TheFrame, Parent as TheParent, Children as TheChildren, Found, Hit as TheHit}
 use Rattle.ax_record.specs.declared.record.Record.{Record}
-use Rattle.ax_record.specs.Tree.{Tree, record_at}
+use Rattle.ax_record.specs.Tree.{Tree, record_at, has_object}
+use Rattle.ax_search.specs.Searches.{found}
+use Rattle.hit_test.specs.Hits.{hit}
 
--- The requests that are answered: those about the root, the focus and an object. Those about markers, places and searches are not yet.
+-- The requests that are answered: all but those about markers.
 abbrev pub is_answered : Request → Bool
 is_answered Root = true
 is_answered Focus = true
@@ -30,8 +33,8 @@ is_answered (NextWord at) = false
 is_answered (LineAt at) = false
 is_answered (TextOf from to) = false
 is_answered (BoundsOf from to) = false
-is_answered (Search r) = false
-is_answered (Hit x y) = false
+is_answered (Search r) = true
+is_answered (Hit x y) = true
 
 -- the object that a request is about
 abbrev pub asked_object : Request → Option ℕ
@@ -57,15 +60,11 @@ asked_object (BoundsOf from to) = None
 asked_object (Search r) = None
 asked_object (Hit x y) = None
 
--- how many children there are, up to the greatest number that is told
-abbrev pub count_of : List ℕ → ℕ
-count_of kids = min (length kids) (2 ^ 32 - 1)
-
 -- the children from a place on, counted from 0, up to 256 of them
 abbrev pub children_from : ℕ → List ℕ → List ℕ
 children_from from kids = take 256 (drop from kids)
 
--- what the record of an object answers to a request about it
+-- what the record of an object answers to a request about it; of its children, how many there are in all, and some of them
 abbrev pub answer_of : Record → Request → Reply
 answer_of r Root = Nothing
 answer_of r Focus = Nothing
@@ -78,7 +77,7 @@ answer_of r (Level id) = option_map_or TheLevel r.level Nothing
 answer_of r (Live id) = TheLive r.live
 answer_of r (Frame id) = TheFrame r.frame
 answer_of r (Parent id) = option_map_or TheParent r.parent Nothing
-answer_of r (Children id from) = TheChildren (count_of r.kids) (children_from from r.kids)
+answer_of r (Children id from) = TheChildren (length r.kids) (children_from from r.kids)
 answer_of r (Compare a b) = Nothing
 answer_of r (NextChar at) = Nothing
 answer_of r (PrevChar at) = Nothing
@@ -88,6 +87,19 @@ answer_of r (TextOf from to) = Nothing
 answer_of r (BoundsOf from to) = Nothing
 answer_of r (Search q) = Nothing
 answer_of r (Hit x y) = Nothing
+
+-- whether a search goes on from an object of the tree, or from none
+abbrev pub has_origin : Tree → Option ℕ → Bool
+has_origin t origin = option_map_or (has_object t) origin true
+
+-- what is told of the objects that a search found
+abbrev pub told_ids : List ℕ → Reply
+told_ids [] = Nothing
+told_ids (n ∷ ns) = Found (n ∷ ns)
+
+-- what a tree answers to a search: it is stale exactly where the tree lacks its origin
+abbrev pub answer_search : Tree → SearchRequest → Reply
+answer_search t r = if has_origin t r.origin then told_ids (found t r) else Stale
 
 -- what a tree answers to a request that is about no object of its own
 abbrev pub answer_whole : Tree → Request → Reply
@@ -110,8 +122,8 @@ answer_whole t (NextWord at) = Nothing
 answer_whole t (LineAt at) = Nothing
 answer_whole t (TextOf from to) = Nothing
 answer_whole t (BoundsOf from to) = Nothing
-answer_whole t (Search r) = Nothing
-answer_whole t (Hit x y) = Nothing
+answer_whole t (Search r) = answer_search t r
+answer_whole t (Hit x y) = option_map_or TheHit (hit t x y) Nothing
 
 -- what a tree answers: about an object it is stale exactly where the tree lacks it
 abbrev pub answer : Tree → Request → Reply

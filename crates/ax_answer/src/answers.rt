@@ -1,20 +1,24 @@
 //! The answer to a request.
-ghost use Rattle.std.specs.Prelude.{◌≡◌, IfOk, IsTrue};
-ghost use Rattle.ax_answer.specs.Answers.{is_answered, asked_object, answer_of, answer_whole, answer, count_of, children_from};
+ghost use Rattle.std.specs.Prelude.{◌≡◌, ◌≤◌, length, IfOk, IsTrue};
+ghost use Rattle.ax_answer.specs.Answers.{is_answered, asked_object, answer_of, answer_whole, answer, children_from};
 
+use crate::searches::answer_search;
 use ax_ask::{Reply, Request};
 use ax_base::{Ids, NoMemory, ObjId};
 use ax_record::{Record, TreeView};
+use hit_test::hit;
 use std::alloc::Global;
 
-/// What a tree answers to a request about its root, its focus or an object. About an object it answers `Stale` exactly
-/// where the tree lacks it. The only error is want of memory for a copy of a text or of ids.
+/// What a tree answers to a request about its root, its focus or an object, to a search or to a point. It answers `Stale`
+/// exactly where the tree lacks the object that is asked about, or from which a search goes on. The only error is want of
+/// memory for a copy of a text or of ids, or for a search.
+#[tactic(auto, using(ax_record::proofs::FewKids::few_of))]
 pub fn answer<T: TreeView>(alloc: Global, t: &T, q: &Request) -> Result<Reply, NoMemory>
     requires { IsTrue (is_answered q.now) }
     ensures { IfOk result (λ r. r ≡ answer (T.tree t.now) q.now) }
 {
     let Some(id) = asked_object(q) else {
-        return Ok(answer_whole(t, q));
+        return answer_whole(alloc, t, q);
     };
     match t.find(id) {
         None => Ok(Reply::Stale),
@@ -52,10 +56,10 @@ fn asked_object(q: &Request) -> Option<ObjId>
 }
 
 /// What a tree answers to a request that is about no object of its own.
-fn answer_whole<T: TreeView>(t: &T, q: &Request) -> Reply
-    ensures { result ≡ answer_whole (T.tree t.now) q.now }
+fn answer_whole<T: TreeView>(alloc: Global, t: &T, q: &Request) -> Result<Reply, NoMemory>
+    ensures { IfOk result (λ r. r ≡ answer_whole (T.tree t.now) q.now) }
 {
-    match q {
+    Ok(match q {
         Request::Root => Reply::Root(t.root()),
         Request::Focus => match t.focus() {
             Some(id) => Reply::Focus(id),
@@ -77,14 +81,18 @@ fn answer_whole<T: TreeView>(t: &T, q: &Request) -> Reply
         | Request::NextWord(_)
         | Request::LineAt(_)
         | Request::TextOf(_, _)
-        | Request::BoundsOf(_, _)
-        | Request::Search(_)
-        | Request::Hit(_, _) => Reply::Nothing,
-    }
+        | Request::BoundsOf(_, _) => Reply::Nothing,
+        Request::Search(search) => answer_search(alloc, t, search)?,
+        Request::Hit(x, y) => match hit(t, *x, *y) {
+            Some(id) => Reply::Hit(id),
+            None => Reply::Nothing,
+        },
+    })
 }
 
 /// What the record of an object answers to a request about it.
 fn answer_of(alloc: Global, object: &Record, q: &Request) -> Result<Reply, NoMemory>
+    requires few { length object.now.kids ≤ 65537 }
     ensures { IfOk result (λ r. r ≡ answer_of object.now q.now) }
 {
     Ok(match q {
@@ -124,11 +132,12 @@ fn answer_of(alloc: Global, object: &Record, q: &Request) -> Result<Reply, NoMem
     })
 }
 
-/// How many children there are, up to the greatest number that is told.
+/// How many children there are.
 fn count_of(kids: &[ObjId]) -> u32
-    ensures { result ≡ count_of kids.now }
+    requires { length kids.now ≤ 65537 }
+    ensures { result ≡ length kids.now }
 {
-    u32::try_from(kids.len()).unwrap_or(u32::MAX)
+    kids.len() as u32
 }
 
 /// The children from a place on, counted from 0, up to 256 of them.

@@ -2,5 +2,6 @@
 #![tactic(auto)]
 
 mod answers;
+mod searches;
 
 pub use answers::answer;

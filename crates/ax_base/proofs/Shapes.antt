@@ -1,5 +1,5 @@
 -- Documents of one shape: the same ids, with the same children.
-use Rattle.std.proofs.Common.{◌≡◌, ℕ, zero, suc, [], ◌∷◌, length, true, Some, Contains, refl, sym, subst, ap, ◌∙◌}
+use Rattle.std.proofs.Common.{◌≡◌, ◌≤◌, ℕ, zero, suc, List, [], ◌∷◌, length, true, Some, Contains, refl, sym, subst, ap, ◌∙◌}
 use Rattle.std.specs.Prelude.{find, nat_eq}
 use Rattle.std.specs.List.{list_any}
 use Rattle.std.specs.List.Sorted.{IsStrictlyIncreasing}
@@ -55,6 +55,7 @@ module _ (d e : Document) (shape : HasShapeOf d e) where
     once = λ n. subst HasNoRepeats (sym (shape.children_same n)) (t.once n);
     bare = λ n text. shape.children_same n ∙ t.bare n (sym (shape.text_same n) ∙ text);
     rising = subst IsStrictlyIncreasing (sym shape.ids_same) t.rising;
+    few = subst (λ (ks : List ℕ). length ks ≤ 65537) (sym shape.ids_same) t.few;
     fits = fit;
     runs = right;
     within = near;

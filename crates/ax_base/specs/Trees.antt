@@ -10,7 +10,7 @@ use Rattle.ax_base.specs.Texts.{IsFitting}
 abbrev pub HasNoRepeats : List ℕ → Type 0
 HasNoRepeats xs = (i j : ℕ) → i < length xs → j < length xs → get_or xs i 0 ≡ get_or xs j 0 → i ≡ j
 
--- Each node hangs on the root, in one place, at most 64 levels below it; texts have no children, are not too long and have runs that they may have; rectangles are within bounds; ids rise; the focused node is there.
+-- Each node hangs on the root, in one place, at most 64 levels below it; texts have no children, are not too long and have runs that they may have; rectangles are within bounds; ids rise; there are 65,537 nodes at most; the focused node is there.
 pub record IsTree (d : Document) : Type 0 where
   -- how far a node is below the root
   pub level : ℕ → ℕ
@@ -26,6 +26,8 @@ pub record IsTree (d : Document) : Type 0 where
   pub once : (n : ℕ) → HasNoRepeats (children d n)
   pub bare : (n : ℕ) → is_text (body d n) ≡ true → children d n ≡ []
   pub rising : IsStrictlyIncreasing (ids d)
+  -- the root, and at most 65,536 others
+  pub few : length (ids d) ≤ 65537
   -- no text is too long
   pub fits : (n : ℕ) → IsFitting (body d n)
   -- the runs of each text go from its begin to its end

@@ -46,7 +46,8 @@ impl Moment {
     }
 }
 
-/// A side of the core: the page, which owns the document, or the client, which answers requests.
+/// A side of the core: the page, which owns the document, or the client (the accessibility thread), which plays the requests of
+/// assistive technology.
 #[derive(Clone, Copy, Debug, PartialEq, Eq)]
 pub enum Who {
     Page,

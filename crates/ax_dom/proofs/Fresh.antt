@@ -78,6 +78,7 @@ module _ (b : Body) (element : is_text b ≡ false) (near : HasRectsWithin b) wh
     once = λ n. subst HasNoRepeats (sym (nothing_below n)) no_repeats-nil;
     bare = λ n text. nothing_below n;
     rising = λ k low. absurd (omega arith);
+    few = omega arith;
     fits = each IsFitting (element_fits b element) nothing_fits;
     runs = each KeepsRuns (element_runs b element) refl;
     within = each HasRectsWithin near no_runs_within;

@@ -1,5 +1,5 @@
 -- What the steps of an insert come to.
-use Rattle.std.proofs.Common.{◌≡◌, inl, inr, ℕ, ◌+◌, ◌≤◌, List, [], Bool, true, false, cond, Option, Some, None, is_some, refl, sym, ap, subst, ◌∙◌, arith}
+use Rattle.std.proofs.Common.{◌≡◌, inl, inr, ℕ, ◌+◌, ◌≤◌, List, [], length, Bool, true, false, cond, Option, Some, None, is_some, refl, sym, ap, subst, ◌∙◌, arith}
 use Rattle.std.specs.List.{list_any}
 use Rattle.std.specs.Ordering.{nat_cmp}
 use Rattle.std.specs.Map.{set_value}
@@ -9,7 +9,7 @@ use Rattle.std.specs.Set.{remove_key}
 use Rattle.std.proofs.lemmas.Bool.{false≢true, or_left, or_right}
 use Rattle.std.proofs.lemmas.Option.{same_Some}
 use Rattle.ax_base.specs.declared.body.Body.{Body}
-use Rattle.ax_base.specs.Document.{Document, has, children, depth, body}
+use Rattle.ax_base.specs.Document.{Document, ids, has, children, depth, body}
 use Rattle.ax_base.proofs.Places.{depth-level}
 use Rattle.ax_base.proofs.Lookups.{finds, finds_same, found_is, lookup-insert_entry, lookup-set_value_at, set_value-insert_entry, list_any-insert_key, remove_key-insert_key}
 use Rattle.ax_dom.specs.declared.cell.Cell.{Cell}
@@ -21,6 +21,7 @@ use Rattle.ax_dom.specs.Used.{is_used}
 use Rattle.ax_dom.specs.Refusals.{MayInsert}
 use Rattle.ax_dom.proofs.Kept.{has_is, children_found}
 use Rattle.ax_dom.proofs.Entries.{nodes_of-insert_entry, nodes_of-set_value, the_slot, slot_missing}
+use Rattle.ax_dom.proofs.Few.{few_nodes}
 use Rattle.ax_dom.proofs.Inserts.{tree_after, cell_kept, cell_new, has_cases, into_apart}
 
 module _ (es : List (ℕ × Slot)) (focus : Option ℕ) (used : List ℕ) (kept : IsKept (document_of es focus used) es) (id into : ℕ) (before : Option ℕ) (b : Body) (may : MayInsert (document_of es focus used) id into before b) where
@@ -45,6 +46,9 @@ module _ (es : List (ℕ × Slot)) (focus : Option ℕ) (used : List ℕ) (kept 
 
   low : kept.tree.level into ≤ 63
   low = let l = depth-level d kept.tree into may.known in let m = may.low in omega arith
+
+  room : length (ids d) ≤ 65536
+  room = let few = few_nodes d kept.tree.rising kept.marked in let more = may.room in omega arith
 
   abbrev new_slot : Slot
   new_slot = record { cell = record { id = id; parent = Some into; depth = depth d into + 1; body = b }; children = [] }
@@ -81,18 +85,18 @@ module _ (es : List (ℕ × Slot)) (focus : Option ℕ) (used : List ℕ) (kept 
     where
       go : (x y : Bool) → finds n id ≡ x → finds into n ≡ y → cond x (Some new_slot) (cond y (Some into_slot) (slot_at es n)) ≡ Some o → o.cell ≡ cell_of e n
       go true y at_id at_into there =
-          ap (λ (x : Slot). x.cell) (sym (same_Some new_slot o there)) ∙ cell_new d kept.tree id into before b lacks may.known low may.element may.fits may.runs may.within ∙ ap (cell_of e) (sym (found_is n id at_id))
+          ap (λ (x : Slot). x.cell) (sym (same_Some new_slot o there)) ∙ cell_new d kept.tree id into before b lacks may.known low may.element room may.fits may.runs may.within ∙ ap (cell_of e) (sym (found_is n id at_id))
       go false true at_id at_into there =
           ap (λ (x : Slot). x.cell) (sym (same_Some into_slot o there)) ∙ kept.cells into s slot_into.1
-          ∙ cell_kept d kept.tree id into before b lacks may.known low may.element may.fits may.runs may.within into may.known ∙ ap (cell_of e) (found_is into n at_into)
+          ∙ cell_kept d kept.tree id into before b lacks may.known low may.element room may.fits may.runs may.within into may.known ∙ ap (cell_of e) (found_is into n at_into)
       go false false at_id at_into there =
-          kept.cells n o there ∙ cell_kept d kept.tree id into before b lacks may.known low may.element may.fits may.runs may.within n (sym (has_is es focus used d n refl) ∙ ap is_some there)
+          kept.cells n o there ∙ cell_kept d kept.tree id into before b lacks may.known low may.element room may.fits may.runs may.within n (sym (has_is es focus used d n refl) ∙ ap is_some there)
 
   kept_after : IsKept e after
   kept_after = record {
-    tree = tree_after d kept.tree id into before b lacks may.known low may.element may.fits may.runs may.within;
+    tree = tree_after d kept.tree id into before b lacks may.known low may.element room may.fits may.runs may.within;
     cells = cell_after;
-    marked = λ n there top. sym (list_any-insert_key n id used) ∙ (elim (has_cases d kept.tree id into before b lacks may.known low may.element may.fits may.runs may.within n there) [
+    marked = λ n there top. sym (list_any-insert_key n id used) ∙ (elim (has_cases d kept.tree id into before b lacks may.known low may.element room may.fits may.runs may.within n there) [
       | inl same ↦ or_left (finds n id) (list_any (is_at (nat_cmp n)) used) (finds_same n id same)
       | inr was ↦ or_right (finds n id) (list_any (is_at (nat_cmp n)) used) (kept.marked n was top)
     ]);
@@ -104,7 +108,7 @@ module _ (es : List (ℕ × Slot)) (focus : Option ℕ) (used : List ℕ) (kept 
     entries_are =
         hung s slot_into.1
         ∙ (λ i. set_value (is_at (nat_cmp into)) (insert_entry nat_cmp es id (record { cell = record { id = id; parent = Some into; depth = depth_is i + 1; body = b }; children = none i })) (record { cell = s.cell; children = placed before id (children_found es focus used d into refl s (sym slot_into.1) i) }))
-        ∙ set_value-insert_entry (is_at (nat_cmp into)) es id new_slot into_slot (into_apart d kept.tree id into before b lacks may.known low may.element may.fits may.runs may.within)
+        ∙ set_value-insert_entry (is_at (nat_cmp into)) es id new_slot into_slot (into_apart d kept.tree id into before b lacks may.known low may.element room may.fits may.runs may.within)
 
     document_hung : document_of fs focus (insert_key nat_cmp used id) ≡ e
     document_hung = ap (λ x. document_of x focus (insert_key nat_cmp used id)) entries_are ∙ document_after

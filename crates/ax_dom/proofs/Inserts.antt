@@ -1,5 +1,5 @@
 -- A document with a new node is a tree.
-use Rattle.std.proofs.Common.{◌≡◌, ◌≢◌, ◌⊎◌, inl, inr, ℕ, suc, ◌+◌, ◌≤◌, List, [], Bool, true, false, cond, Option, Some, is_some, Contains, refl, sym, ap, subst, ◌∙◌, arith, add-one}
+use Rattle.std.proofs.Common.{◌≡◌, ◌≢◌, ◌⊎◌, inl, inr, ℕ, suc, ◌+◌, ◌≤◌, List, [], length, Bool, true, false, cond, Option, Some, is_some, Contains, refl, sym, ap, subst, ◌∙◌, arith, add-one}
 use Rattle.std.specs.Option.{option_map_or}
 use Rattle.std.specs.Ordering.{nat_cmp}
 use Rattle.std.specs.BTreeMap.{is_at}
@@ -8,6 +8,7 @@ use Rattle.std.specs.List.Sorted.{IsStrictlyIncreasing}
 use Rattle.std.proofs.lemmas.Bool.{false≢true}
 use Rattle.std.proofs.lemmas.Bool.Decides.{eqb_tells}
 use Rattle.std.proofs.lemmas.Map.{keys-set_value}
+use Rattle.std.proofs.lemmas.Map.Made.{is_some-lookup}
 use Rattle.ax_base.specs.declared.body.Body.{Body}
 use Rattle.ax_base.specs.declared.body.Body.TheVariants.{Words}
 use Rattle.ax_base.specs.Document.{Document, Node, node, has, root, children, parent, depth, body, is_text, ids, IsChild}
@@ -21,9 +22,10 @@ use Rattle.ax_base.proofs.Repeats.{no_repeats-nil}
 use Rattle.ax_dom.specs.Slots.{cell_of}
 use Rattle.ax_dom.specs.Places.{placed}
 use Rattle.ax_dom.specs.Changes.{with_children, inserted}
+use Rattle.ax_dom.proofs.Counted.{length-put}
 use Rattle.ax_dom.proofs.Placed.{placed_cases, placed_keeps, placed_has, placed_once}
 
-module _ (d : Document) (t : IsTree d) (id into : ℕ) (before : Option ℕ) (b : Body) (new : has d id ≡ false) (old : has d into ≡ true) (low : t.level into ≤ 63) (element : is_text (body d into) ≡ false) (fit : IsFitting b) (right : KeepsRuns b) (near : HasRectsWithin b) where
+module _ (d : Document) (t : IsTree d) (id into : ℕ) (before : Option ℕ) (b : Body) (new : has d id ≡ false) (old : has d into ≡ true) (low : t.level into ≤ 63) (element : is_text (body d into) ≡ false) (room : length (ids d) ≤ 65536) (fit : IsFitting b) (right : KeepsRuns b) (near : HasRectsWithin b) where
   abbrev e : Document
   e = inserted d id into before b
 
@@ -137,10 +139,18 @@ module _ (d : Document) (t : IsTree d) (id into : ℕ) (before : Option ℕ) (b 
       go false true is text = absurd (false≢true (sym element ∙ text))
       go false false is text = t.bare q text
 
+  ids_after : ids e ≡ insert_key nat_cmp (ids d) id
+  ids_after = keys-insert_entry (with_children d into list) id (record { body = b; children = [] }) ∙ ap (λ ks. insert_key nat_cmp ks id) (keys-set_value (is_at (nat_cmp into)) d.nodes (record { body = body d into; children = list }))
+
   rising_after : IsStrictlyIncreasing (ids e)
-  rising_after = subst IsStrictlyIncreasing
-      (sym (keys-insert_entry (with_children d into list) id (record { body = b; children = [] }) ∙ ap (λ ks. insert_key nat_cmp ks id) (keys-set_value (is_at (nat_cmp into)) d.nodes (record { body = body d into; children = list }))))
-      (rising-insert_key id (ids d) t.rising)
+  rising_after = subst IsStrictlyIncreasing (sym ids_after) (rising-insert_key id (ids d) t.rising)
+
+  -- one node more
+  few_after : length (ids e) ≤ 65537
+  few_after =
+      let more = length-put id (ids d) (sym (is_some-lookup (is_at (nat_cmp id)) d.nodes) ∙ new) in
+      let same = ap (λ (ks : List ℕ). length ks) ids_after in
+      omega arith
 
   abbrev level_after : ℕ → ℕ
   level_after q = cond (finds q id) (suc (t.level into)) (t.level q)
@@ -180,6 +190,7 @@ module _ (d : Document) (t : IsTree d) (id into : ℕ) (before : Option ℕ) (b 
     once = once_after;
     bare = bare_after;
     rising = rising_after;
+    few = few_after;
     fits = each_after IsFitting fit t.fits;
     runs = each_after KeepsRuns right t.runs;
     within = each_after HasRectsWithin near t.within;

@@ -13,6 +13,7 @@ pub mod Removed
 pub mod RemovedSlots
 pub mod Moved
 pub mod MovedSlots
+pub mod Few
 pub mod Inserts
 pub mod Entries
 pub mod Inserted

@@ -1,5 +1,5 @@
 -- A document with a node, and all below it, in another place is a tree.
-use Rattle.std.proofs.Common.{◌≡◌, ◌≢◌, ◌⊎◌, inl, inr, ℕ, suc, ◌+◌, ◌-◌, ◌≤◌, List, [], Bool, true, false, cond, Option, Some, None, is_some, Contains, refl, sym, ap, subst, ◌∙◌, arith}
+use Rattle.std.proofs.Common.{◌≡◌, ◌≢◌, ◌⊎◌, inl, inr, ℕ, suc, ◌+◌, ◌-◌, ◌≤◌, List, [], length, Bool, true, false, cond, Option, Some, None, is_some, Contains, refl, sym, ap, subst, ◌∙◌, arith}
 use Rattle.std.specs.Option.{option_map, option_map_or}
 use Rattle.std.specs.Ordering.{nat_cmp}
 use Rattle.std.specs.BTreeMap.{is_at}
@@ -206,6 +206,7 @@ module _ (d : Document) (t : IsTree d) (n into : ℕ) (before : Option ℕ) (apa
     once = once_moved;
     bare = bare_moved;
     rising = subst IsStrictlyIncreasing (sym ids_moved) t.rising;
+    few = subst (λ (ks : List ℕ). length ks ≤ 65537) (sym ids_moved) t.few;
     fits = λ q. subst IsFitting (sym (body_moved q)) (t.fits q);
     runs = λ q. subst KeepsRuns (sym (body_moved q)) (t.runs q);
     within = λ q. subst HasRectsWithin (sym (body_moved q)) (t.within q);

@@ -1,5 +1,5 @@
 -- A document without a node and all below it is a tree.
-use Rattle.std.proofs.Common.{◌≡◌, ◌≢◌, inl, inr, ℕ, [], Bool, true, false, cond, not, Option, Some, None, is_some, Contains, refl, sym, ap, subst, ◌∙◌, arith}
+use Rattle.std.proofs.Common.{◌≡◌, ◌≢◌, inl, inr, ◌≤◌, ℕ, List, [], length, Bool, true, false, cond, not, Option, Some, None, is_some, Contains, refl, sym, ap, subst, ◌∙◌, arith}
 use Rattle.std.specs.Prelude.{filter}
 use Rattle.std.specs.Option.{option_map, option_map_or}
 use Rattle.std.specs.Ordering.{nat_cmp}
@@ -19,6 +19,7 @@ use Rattle.ax_base.specs.Rects.{HasRectsWithin}
 use Rattle.ax_base.specs.Runs.{KeepsRuns}
 use Rattle.ax_base.specs.Texts.{IsFitting}
 use Rattle.ax_base.specs.Trees.{IsTree, HasNoRepeats}
+use Rattle.ax_base.proofs.Membership.{fewer_pass}
 use Rattle.ax_base.proofs.Lookups.{found_is}
 use Rattle.ax_base.proofs.Repeats.{no_repeats-nil}
 use Rattle.ax_dom.specs.Slots.{cell_of}
@@ -177,6 +178,7 @@ module _ (d : Document) (t : IsTree d) (n : ℕ) (apart : n ≢ root) where
     once = once_left;
     bare = bare_left;
     rising = rising_left;
+    few = let fewer = fewer_pass (λ k. not (is_within d n k)) (ids d) in let same = ap (λ (ks : List ℕ). length ks) ids_left in let was = t.few in omega arith;
     fits = each_left IsFitting nothing_fits t.fits;
     runs = each_left KeepsRuns refl t.runs;
     within = each_left HasRectsWithin no_runs_within t.within;

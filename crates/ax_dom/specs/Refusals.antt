@@ -170,6 +170,7 @@ pub record MayInsert (d : Document) (id into : ℕ) (before : Option ℕ) (b : B
   pub place : is_place d into before ≡ true
   pub element : is_text (body d into) ≡ false
   pub low : depth d into < 64
+  pub room : length d.used < 65536
   pub fits : IsFitting b
   pub runs : KeepsRuns b
   pub within : HasRectsWithin b

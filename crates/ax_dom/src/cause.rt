@@ -14,7 +14,7 @@ pub enum EditCause {
     /// The id of an insert is the root's, or was inserted before.
     #[error("the id is the root's, or was inserted before")]
     UsedId,
-    /// The node to insert or move before is no child of the parent, or is the moved node itself.
+    /// `before` is not a child of `into`, or is the node being moved.
     #[error("the place names no other child of the parent")]
     BadPlace,
     /// An element is wanted where a text stands.
@@ -35,7 +35,7 @@ pub enum EditCause {
     /// As many nodes were inserted as may ever be: 65,536.
     #[error("65536 nodes were inserted already")]
     TooMany,
-    /// The runs do not cover the text from its begin to its end, or their lines fall.
+    /// The runs do not cover the text from start to end, or a line number decreases.
     #[error("the runs do not cover the text in order")]
     BadRuns,
     /// An attribute value has more than 4,096 bytes, or a text more than 65,536 characters.

@@ -111,7 +111,7 @@ impl Front {
     pub fn put_gap(&mut self, white: bool) -> Result<(), NoMemory>
         ensures { OnOk result (self.new ≡ followed self.old (space_behind self.old.words white)) }
     {
-        // A look at a field: what always holds of the fields is known from here on.
+        // Proof only: borrowing a field brings the type's invariant into scope.
         let _ = &self.count;
         if self.is_empty() {
             return Ok(());
@@ -150,7 +150,7 @@ impl Front {
     fn put_str(&mut self, text: &str) -> Result<(), NoMemory>
         ensures { OnOk result (self.new ≡ followed self.old text.now) }
     {
-        // A look at a field: what always holds of the fields is known from here on.
+        // Proof only: borrowing a field brings the type's invariant into scope.
         let _ = &self.count;
         for c in text.chars() {
             self.put(c)?;
@@ -198,7 +198,7 @@ impl Front {
     fn put_uneven(&mut self, white: bool, text: &str) -> Result<(), NoMemory>
         ensures { OnOk result (self.new ≡ followed self.old (spaced self.old.words (white || begins_white text.now) (flat text.now))) }
     {
-        // A look at a field: what always holds of the fields is known from here on.
+        // Proof only: borrowing a field brings the type's invariant into scope.
         let _ = &self.count;
         let mut apart = white;
         for c in text.chars() {

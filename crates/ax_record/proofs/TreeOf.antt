@@ -25,6 +25,7 @@ use Rattle.ax_base.specs.Roles.{role_of}
 use Rattle.ax_base.specs.Runs.{KeepsRuns}
 use Rattle.ax_base.specs.Texts.{IsFitting}
 use Rattle.ax_base.specs.Kids.{kids, objects}
+use Rattle.ax_base.proofs.Membership.{fewer_pass}
 use Rattle.ax_base.proofs.Places.{find_none}
 use Rattle.ax_base.proofs.Lookups.{finds, found_is}
 use Rattle.ax_base.proofs.KidsLaws.{kids_deeper}
@@ -182,6 +183,7 @@ module _ (d : Document) (t : IsTree d) where
     shallow = λ n. let s = t.shallow n in omega arith;
     rising = subst IsStrictlyIncreasing (sym (keys-made (record_of d) (filter (is_object d) (ids d))))
         (IsStrictlyIncreasing-from_sorted (filter (is_object d) (ids d)) (IsStrictlySortedBy-filter nat_cmp (is_object d) (ids d) (sorted_from_strictly_increasing (ids d) t.rising)));
+    few = let fewer = fewer_pass (is_object d) (ids d) in let same = ap (λ (ks : List ℕ). length ks) (keys-made (record_of d) (filter (is_object d) (ids d))) in let all = t.few in omega arith;
     own_id = λ n r found. ap (λ (x : Record). x.id) (sym (record_found n r found));
     has_root = has_is root ∙ is_one root (root_is_object d t);
     root_parent = parent_is root ∙ ap (λ b. cond b (holder d root) None) (is_one root (root_is_object d t)) ∙ holder-root;

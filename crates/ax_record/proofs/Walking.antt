@@ -61,7 +61,7 @@ apart_all : (x : ℕ) (xs : List ℕ) → (Contains xs x → ⊥) → AllByRecur
 apart_all x [] none = tt
 apart_all x (y ∷ ys) none = (elim (eqb_tells x y) [ inl (e, is) ↦ absurd (none (subst (λ z. Contains (y ∷ ys) z) (sym is) (Contains-head y ys))) | inr (e, apart) ↦ e ], apart_all x ys (λ inside. none (Contains-tail y x ys inside)))
 
-distinct : (xs : List ℕ) → HasNoRepeats xs → IsDistinct eqb xs
+pub distinct : (xs : List ℕ) → HasNoRepeats xs → IsDistinct eqb xs
 unfolding IsDistinct
 distinct [] once = tt
 distinct (x ∷ xs) once = (apart_all x xs (head_apart x xs once), distinct xs (tail_no_repeats x xs once))

@@ -10,14 +10,14 @@ use Rattle.story_check.specs.Stories.{Script}
 use Rattle.ax_answer.specs.Legal.{IsLegalTranscript}
 use Rattle.ax_world.specs.Machine.{transcript_of}
 use Rattle.ax_session.specs.declared.words.Command.{Command}
-use Rattle.ax_session.specs.declared.words.Command.TheVariants.{Dump, Replay, Run}
+use Rattle.ax_session.specs.declared.words.Command.TheVariants.{Dump, Replay, Run, Gen}
 use Rattle.ax_session.specs.declared.words.Status.{Status}
 use Rattle.ax_session.specs.declared.words.Status.TheVariants.{Done, Refused, ReadFault, WriteFault, NoMemory, Words}
 use Rattle.ax_session.specs.declared.story.Refusal.{Refusal}
 use Rattle.ax_session.specs.Command.{command_of}
 use Rattle.ax_session.specs.Story.{Accepted}
-use Rattle.ax_session.specs.Texts.{document_text, replay_text}
-use Rattle.ax_session.specs.TopCall.{Does, IsGood, Refuses, MayAnswer, Completes, IsComplete, TakesFor, HasInput, LeavesSpawner}
+use Rattle.ax_session.specs.Texts.{document_text, replay_text, summary_text}
+use Rattle.ax_session.specs.TopCall.{Does, IsGood, Refuses, MayAnswer, Completes, IsComplete, TakesFor, HasInput, LeavesSource, LeavesSpawner}
 use Rattle.ax_session.proofs.Lines.{last_text}
 
 -- no input is both done and refused
@@ -25,11 +25,13 @@ good_apart : (command : Command) (input : List ℕ) (refusal : Refusal) → IsGo
 good_apart Dump input refusal h r = let e = sym h.1 ∙ r in cc
 good_apart Replay input refusal h r = let e = sym h.1 ∙ r in cc
 good_apart Run input refusal h r = let e = sym h.1 ∙ r in cc
+good_apart (Gen n) input refusal h r = let e = sym h.1 ∙ r in cc
 
 done_is_good : (command : Command) (input text : List ℕ) → Does command input text → IsGood command input
 done_is_good Dump input text h = (h.0, h.1)
 done_is_good Replay input text h = (h.0, h.1)
 done_is_good Run input text h = (h.0, h.2)
+done_is_good (Gen n) input text h = (h.0, h.1)
 
 -- an answer to an input is the one that it has
 answers : (command : Command) (input : List ℕ) (status : Status) (text : List ℕ) → MayAnswer command input status text → Completes command input status
@@ -48,6 +50,7 @@ one_input Replay None new taken input t h = absurd h
 one_input Replay (Some bytes) new taken input t h = t.is_all ∙ sym h
 one_input Run None new taken input t h = absurd h
 one_input Run (Some bytes) new taken input t h = t.is_all ∙ sym h
+one_input (Gen n) left new taken input t h = t.0 ∙ sym h
 
 pub complete_from : (words : List (String Global)) (mine : Command) (left new : Option (List ℕ)) (reads reads' writes writes' : ℕ) (taken input : List ℕ) (status : Status) (text : List ℕ)
     → command_of words ≡ Some mine → TakesFor mine left new taken → input ≡ taken → MayAnswer mine input status text → IsComplete words left reads reads' writes writes' status
@@ -64,6 +67,10 @@ dumps input last text (story, a, is) t = (story, a, t ∙ last_text story last.d
 pub replays : (input : List ℕ) (story : Script) (text : List ℕ) → Accepted input story → IsLegalTranscript story (transcript_of story) → text ≡ replay_text story → Does Replay input text
 replays input story text a legal t = (story, a, legal, t)
 
+-- what `gen` writes of an accepted story
+pub summarizes : (n : ℕ) (input : List ℕ) (story : Script) (text : List ℕ) → Accepted input story → IsLegalTranscript story (transcript_of story) → text ≡ summary_text story → Does (Gen n) input text
+summarizes n input story text a legal t = (story, a, legal, t)
+
 -- what `run` writes of an accepted story
 pub runs : (input : List ℕ) (story : Script) (transcript : Transcript) (text : List ℕ) → Accepted input story → IsLegalTranscript story transcript → text ≡ transcript_text transcript → Does Run input text
 runs input story transcript text a legal t = (story, transcript, a, legal, t)
@@ -74,7 +81,12 @@ left_alone None spawner = refl
 left_alone (Some Dump) spawner = refl
 left_alone (Some Replay) spawner = refl
 left_alone (Some Run) spawner = tt
+left_alone (Some (Gen n)) spawner = refl
 
 -- what the command of some words does to the spawner
 pub leaves : {S : Type 0} (words : Option Command) (command : Command) (old new : S) → words ≡ Some command → LeavesSpawner (Some command) old new → LeavesSpawner words old new
 leaves words command old new is h = subst (λ w. LeavesSpawner w old new) (sym is) h
+
+-- and to the source
+pub leaves_source : {I : Type 0} (words : Option Command) (command : Command) (old new : I) → words ≡ Some command → LeavesSource (Some command) old new → LeavesSource words old new
+leaves_source words command old new is h = subst (λ w. LeavesSource w old new) (sym is) h

@@ -4,3 +4,4 @@ pub mod Lines
 pub mod Rows
 mod Pairing
 mod Ending
+mod Counts

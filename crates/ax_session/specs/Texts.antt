@@ -1,5 +1,5 @@
--- What `dump` and `replay` write of a story.
-use Rattle.std.specs.Prelude.{ℕ, List, [], ◌∷◌, ◌++◌, codes, Option, Some, None}
+-- What `dump`, `replay` and `gen` write of a story.
+use Rattle.std.specs.Prelude.{ℕ, List, [], ◌∷◌, ◌++◌, codes, length, Option, Some, None}
 use Rattle.std.specs.List.{flat_map}
 use Rattle.std.specs.Fmt.{decimal}
 use Rattle.std.specs.Option.{option_map_or}
@@ -49,3 +49,11 @@ dump_text s = lines_within (tree_at s (flushes s.page)) 128 root ++ end_line (fl
 -- what `replay` writes: the text of what the client was told, and the number of flushes
 unfoldable pub replay_text : Script → Chars
 replay_text s = transcript_text (transcript_of s)
+
+-- a line of a label and a number
+abbrev pub count_line : Chars → ℕ → Chars
+count_line label count = label ++ decimal count ++ codes "\n"
+
+-- what `gen` writes: how many lines the client has, how many moments the story has, and how many bytes the text of its play has
+unfoldable pub summary_text : Script → Chars
+summary_text s = count_line (codes "replies ") (length s.client) ++ count_line (codes "moments ") (flushes s.page) ++ count_line (codes "bytes ") (length (replay_text s))

@@ -8,7 +8,7 @@ use Rattle.story_check.specs.Stories.{Script}
 use Rattle.ax_answer.specs.Legal.{IsLegalTranscript}
 use Rattle.ax_world.specs.Machine.{transcript_of}
 use Rattle.ax_session.specs.declared.words.Command.{Command}
-use Rattle.ax_session.specs.declared.words.Command.TheVariants.{Dump, Replay, Run}
+use Rattle.ax_session.specs.declared.words.Command.TheVariants.{Dump, Replay, Run, Gen}
 use Rattle.ax_session.specs.declared.words.Status.{Status}
 use Rattle.ax_session.specs.declared.words.Status.TheVariants.{Done, Refused, ReadFault, WriteFault, NoMemory, Words}
 use Rattle.ax_session.specs.declared.story.Refusal.{Refusal}
@@ -17,7 +17,8 @@ use Rattle.ax_session.specs.Refusals.{refusal_text}
 use Rattle.ax_session.specs.Story.{Accepted, IsRefused}
 use Rattle.ax_ask.specs.declared.transcripts.Transcript.{Transcript}
 use Rattle.ax_ask.specs.Transcripts.{transcript_text}
-use Rattle.ax_session.specs.Texts.{dump_text, replay_text}
+use Rattle.ax_session.specs.Texts.{dump_text, replay_text, summary_text}
+use Rattle.story_gen.specs.Generated.{generated}
 
 -- The input is one that the command does, and this text shows what it comes to. What is replayed is legal: each reply is that of the
 -- tree built afresh from the document after the edits flushed by its moment, and no moment falls.
@@ -25,24 +26,28 @@ abbrev pub Does : Command → List ℕ → List ℕ → Type 0
 Does Dump input text = (story : Script) × Accepted input story × (text ≡ dump_text story)
 Does Replay input text = (story : Script) × Accepted input story × IsLegalTranscript story (transcript_of story) × (text ≡ replay_text story)
 Does Run input text = (story : Script) × (transcript : Transcript) × Accepted input story × IsLegalTranscript story transcript × (text ≡ transcript_text transcript)
+Does (Gen n) input text = (story : Script) × Accepted input story × IsLegalTranscript story (transcript_of story) × (text ≡ summary_text story)
 
 -- the input is one that the command does
 abbrev pub IsGood : Command → List ℕ → Type 0
 IsGood Dump input = (story : Script) × Accepted input story
 IsGood Replay input = (story : Script) × Accepted input story
 IsGood Run input = (story : Script) × Accepted input story
+IsGood (Gen n) input = (story : Script) × Accepted input story
 
 -- this is the refusal of the input
 abbrev pub Refuses : Command → List ℕ → Refusal → Type 0
 Refuses Dump input refusal = IsRefused input refusal
 Refuses Replay input refusal = IsRefused input refusal
 Refuses Run input refusal = IsRefused input refusal
+Refuses (Gen n) input refusal = IsRefused input refusal
 
 -- a command that reads the source
 abbrev pub IsReader : Command → Type 0
 IsReader Dump = Unit {0}
 IsReader Replay = Unit {0}
 IsReader Run = Unit {0}
+IsReader (Gen n) = ⊥
 
 -- for this input the command may answer so and write this text
 abbrev pub MayAnswer : Command → List ℕ → Status → List ℕ → Type 0
@@ -57,17 +62,19 @@ MayAnswer command input Words text = ⊥
 abbrev pub most_read : ℕ
 most_read = 2 ^ 24 + 1
 
--- the input of a command, where the source tells what it has left
+-- the input of a command, where the source tells what it has left: that of `gen` is the generated story
 abbrev pub HasInput : Command → Option (List ℕ) → List ℕ → Type 0
 HasInput Dump left input = IsSomeAnd left (λ bytes. input ≡ take most_read bytes)
 HasInput Replay left input = IsSomeAnd left (λ bytes. input ≡ take most_read bytes)
 HasInput Run left input = IsSomeAnd left (λ bytes. input ≡ take most_read bytes)
+HasInput (Gen n) left input = input ≡ generated n
 
--- the input of a command was taken from the source, and nothing else
+-- the input of a command was taken from the source, and nothing else; for `gen` nothing is taken
 abbrev pub TakesFor : Command → Option (List ℕ) → Option (List ℕ) → List ℕ → Type 0
 TakesFor Dump left left' input = TakesInput most_read left left' input
 TakesFor Replay left left' input = TakesInput most_read left left' input
 TakesFor Run left left' input = TakesInput most_read left left' input
+TakesFor (Gen n) left left' input = (input ≡ generated n) × (left' ≡ left)
 
 -- the input was taken and nothing else, and this text is the answer to it
 pub record Replies (words : List (String Global)) (left left' : Option (List ℕ)) (status : Status) (text : List ℕ) : Type 0 where
@@ -120,3 +127,12 @@ LeavesSpawner None old new = new ≡ old
 LeavesSpawner (Some Dump) old new = new ≡ old
 LeavesSpawner (Some Replay) old new = new ≡ old
 LeavesSpawner (Some Run) old new = Unit {0}
+LeavesSpawner (Some (Gen n)) old new = new ≡ old
+
+-- what a command that reads nothing leaves: the source as it was, and so do words that are no command
+abbrev pub LeavesSource : {I : Type 0} → Option Command → I → I → Type 0
+LeavesSource None old new = new ≡ old
+LeavesSource (Some Dump) old new = Unit {0}
+LeavesSource (Some Replay) old new = Unit {0}
+LeavesSource (Some Run) old new = Unit {0}
+LeavesSource (Some (Gen n)) old new = new ≡ old

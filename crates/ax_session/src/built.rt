@@ -35,7 +35,7 @@ fn is_answered_line(line: &ClientLine) -> bool
     }
 }
 
-/// Whether a request is answered: it is about the root, the focus or an object.
+/// Whether a request is answered: all are but those about markers.
 fn is_answered(request: &Request) -> bool
     ensures { result ≡ is_answered request.now }
 {
@@ -51,15 +51,15 @@ fn is_answered(request: &Request) -> bool
         | Request::Live(_)
         | Request::Frame(_)
         | Request::Parent(_)
-        | Request::Children(_, _) => true,
+        | Request::Children(_, _)
+        | Request::Search(_)
+        | Request::Hit(_, _) => true,
         Request::Compare(_, _)
         | Request::NextChar(_)
         | Request::PrevChar(_)
         | Request::NextWord(_)
         | Request::LineAt(_)
         | Request::TextOf(_, _)
-        | Request::BoundsOf(_, _)
-        | Request::Search(_)
-        | Request::Hit(_, _) => false,
+        | Request::BoundsOf(_, _) => false,
     }
 }

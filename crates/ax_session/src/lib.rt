@@ -7,6 +7,7 @@ mod play_text;
 mod refusals;
 mod settling;
 mod story;
+mod summary;
 mod threads;
 mod top;
 mod tree_text;

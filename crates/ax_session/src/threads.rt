@@ -4,6 +4,7 @@ ghost use Rattle.story_check.specs.Stories.{stuck};
 ghost use Rattle.story_check.specs.Moments.{IsAccepted};
 ghost use Rattle.ax_answer.specs.Legal.{IsLegalTranscript};
 ghost use Rattle.ax_answer.specs.Moments.{AreAnswered};
+ghost use Rattle.ax_world.specs.Machine.{transcript_in_turns};
 
 use crate::jobs::{ClientJob, PageJob};
 use crate::settling::settle;
@@ -34,7 +35,8 @@ pub fn run_threads<R: Threads + Wait + Sync, G: Gate + Sync, S: Spawner>(
     requires free { stuck story.now ≡ false }
     requires accepted { IsAccepted story.now }
     requires answered { AreAnswered story.now.client }
-    ensures { IfOk result (IsLegalTranscript story.now) }
+    ensures legal { IfOk result (IsLegalTranscript story.now) }
+    ensures alone { (S.may_start spawner.old → ⊥) → IfOk result (λ w. w ≡ transcript_in_turns story.now) }
 {
     let (ports, page, client) = open_ports(alloc, story)?;
     let document = base_dom(alloc, story)?;

@@ -1,16 +1,18 @@
 //! The top call: from words and bytes to a status and bytes.
-ghost use Rattle.std.specs.Prelude.{◌≡◌, ◌↔◌, None, Some, IfOk, IfErr, OnOk, IsErrOf};
+ghost use Rattle.std.specs.Prelude.{◌≡◌, ◌↔◌, ◌≤◌, None, Some, IfOk, IfErr, OnOk, IsErrOf};
 ghost use Rattle.ax_edge.specs.Causes.{Rose};
-ghost use Rattle.ax_session.specs.declared.words.Command.TheVariants.{Dump, Replay, Run};
+ghost use Rattle.ax_session.specs.declared.words.Command.TheVariants.{Dump, Replay, Run, Gen};
 ghost use Rattle.ax_session.specs.declared.story.Refusal.{Refusal};
-ghost use Rattle.ax_session.specs.Command.{command_of};
+ghost use Rattle.ax_session.specs.Command.{command_of, HasCount};
 ghost use Rattle.ax_session.specs.Refusals.{refusal_text};
 ghost use Rattle.ax_session.specs.Story.{judged, AcceptFails};
-ghost use Rattle.ax_session.specs.TopCall.{Does, IsReader, TakesFor, MayAnswer, StatusMeans, IsComplete, LeavesSpawner};
+ghost use Rattle.ax_session.specs.TopCall.{Does, IsReader, TakesFor, MayAnswer, StatusMeans, IsComplete, LeavesSource, LeavesSpawner};
+ghost use Rattle.story_gen.specs.Generated.{generated};
 
 use crate::play_text::replay_text;
 use crate::refusals::refusal_line;
 use crate::story::{accept, accept_last};
+use crate::summary::summary_text;
 use crate::threads::run_threads;
 use crate::tree_text::document_text;
 use crate::{AcceptFail, Command, Status, command_of};
@@ -21,6 +23,7 @@ use ax_world::playing_ends;
 use std::alloc::Global;
 use std::sync::Wait;
 use std::thread::Threads;
+use story_gen::generate;
 
 /// Does the command that the words name: reads its input to the end, does the work, and writes the whole text.
 ///
@@ -40,6 +43,7 @@ pub fn axcore<R: Threads + Wait + Sync, I: Source, O: Sink, G: Gate + Sync, S: S
     ensures means { StatusMeans I.left I.faults O.gone O.faults words.now source.old source.new sink.old sink.new result }
     ensures complete { IsComplete words.now (I.left source.old) (I.faults source.old) (I.faults source.new)
         (O.faults sink.old) (O.faults sink.new) result }
+    ensures source { LeavesSource (command_of words.now) source.old source.new }
     ensures spawner { LeavesSpawner (command_of words.now) spawner.old spawner.new }
 {
     let Some(command) = command_of(words) else {
@@ -72,6 +76,7 @@ pub fn still_command<I: Source, O: Sink>(
     ensures means { StatusMeans I.left I.faults O.gone O.faults words.now source.old source.new sink.old sink.new result }
     ensures complete { IsComplete words.now (I.left source.old) (I.faults source.old) (I.faults source.new)
         (O.faults sink.old) (O.faults sink.new) result }
+    ensures source { LeavesSource (command_of words.now) source.old source.new }
 {
     let Some(command) = command_of(words) else {
         return Status::Words;
@@ -94,21 +99,37 @@ pub fn still_command<I: Source, O: Sink>(
 /// One more byte than a story may have: then it is known to be too long.
 const MOST_READ: usize = 16_777_217;
 
-/// The input of a command.
+/// The input of a command. That of `gen` is made, and the source is left alone.
 fn input_of<I: Source>(
     alloc: Global,
     command: Command,
     source: &mut I,
 ) -> Result<Vec<u8>, ReadError>
+    requires { HasCount command }
     ensures input { IfOk result (λ input. TakesFor command (I.left source.old) (I.left source.new) input.items) }
     ensures kept { OnOk result (I.faults source.new ≡ I.faults source.old) }
     ensures failed { IsErrOf result ReadError.Failed → IsReader command × Rose (I.faults source.old) (I.faults source.new) }
+    ensures source { LeavesSource (Some command) source.old source.new }
 {
     match command {
         Command::Dump => read_input(alloc, source, MOST_READ),
         Command::Replay => read_input(alloc, source, MOST_READ),
         Command::Run => read_input(alloc, source, MOST_READ),
+        Command::Gen(count) => match generated_input(alloc, count) {
+            Ok(input) => Ok(input),
+            Err(NoMemory) => Err(ReadError::NoMemory),
+        },
     }
+}
+
+/// The story of so many items, as the bytes of an input.
+fn generated_input(alloc: Global, count: u16) -> Result<Vec<u8>, NoMemory>
+    requires some { 1 ≤ count }
+    requires most { count ≤ 1000 }
+    ensures { IfOk result (λ input. input.items ≡ generated count) }
+{
+    let text = generate(alloc, count)?;
+    Ok(text.into_string().into_bytes())
 }
 
 /// What a command answers to its input, before it is written.
@@ -133,6 +154,7 @@ fn reply_to<R: Threads + Wait + Sync, G: Gate + Sync, S: Spawner>(
     match command {
         Command::Dump => still_reply(alloc, command, input),
         Command::Replay => still_reply(alloc, command, input),
+        Command::Gen(_) => still_reply(alloc, command, input),
         Command::Run => match run_input(rt, alloc, input, gate, spawner) {
             Ok(text) => Ok(done(text)),
             Err(fail) => refused(alloc, fail),
@@ -148,6 +170,7 @@ fn still_reply(alloc: Global, command: Command, input: &[u8]) -> Result<Reply, N
     let told = match command {
         Command::Dump => dump_input(alloc, input),
         Command::Replay => replay_input(alloc, input),
+        Command::Gen(count) => gen_input(alloc, input, count),
         Command::Run => unreachable!(),
     };
     match told {
@@ -197,6 +220,18 @@ fn replay_input(alloc: Global, input: &[u8]) -> Result<Text, AcceptFail>
     let story = accept(alloc, input)?;
     playing_ends();
     let text = replay_text(alloc, &story)?;
+    Ok(text)
+}
+
+/// What `gen` writes of its input, the generated story of so many items. What is played is legal.
+fn gen_input(alloc: Global, input: &[u8], count: u16) -> Result<Text, AcceptFail>
+    ensures done { IfOk result (λ text. Does (Gen count) input.now text) }
+    ensures refused { IfErr result (λ fail. AcceptFails fail (judged input.now)) }
+{
+    let _count = count;
+    let story = accept(alloc, input)?;
+    playing_ends();
+    let text = summary_text(alloc, &story)?;
     Ok(text)
 }
 

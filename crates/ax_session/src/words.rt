@@ -1,6 +1,8 @@
 //! Which words are a command, and how a command ends.
-ghost use Rattle.std.specs.Prelude.{◌≡◌};
-ghost use Rattle.ax_session.specs.Command.{command_of, status_number};
+ghost use Rattle.std.specs.Prelude.{◌≡◌, ◌≤◌, IfSome};
+ghost use Rattle.ax_session.specs.Command.{HasCount, at_most_thousand, count_of, command_of, generating, has_zero_in_front, status_number};
+
+use ax_base::are_digits;
 
 /// What the program is asked to do.
 #[derive(Clone, Copy, Debug, PartialEq, Eq)]
@@ -11,6 +13,8 @@ pub enum Command {
     Replay,
     /// Run the page and the client of a story on two threads, and write what the client was told.
     Run,
+    /// Generate the story of so many items, from 1 to 1,000, play it, and write how much its client was told.
+    Gen(u16),
 }
 
 /// How the top call ends.
@@ -48,7 +52,8 @@ impl Status {
 
 /// The command of these words, or `None` exactly where they are none of the forms.
 pub fn command_of(words: &[String]) -> Option<Command>
-    ensures { result ≡ command_of words.now }
+    ensures form { result ≡ command_of words.now }
+    ensures count { IfSome result HasCount }
 {
     match words {
         [word] => {
@@ -62,6 +67,52 @@ pub fn command_of(words: &[String]) -> Option<Command>
                 None
             }
         }
+        [first, word] => {
+            if first.as_str() == "gen" {
+                generating(count_of(word.as_str()))
+            } else {
+                None
+            }
+        }
         _ => None,
     }
+}
+
+/// The command that generates the story of so many items.
+fn generating(count: Option<u16>) -> Option<Command>
+    ensures { result ≡ generating count }
+{
+    match count {
+        Some(count) => Some(Command::Gen(count)),
+        None => None,
+    }
+}
+
+/// The number from 1 to 1,000 that a word writes in decimal digits, without a sign and without a zero in front.
+fn count_of(word: &str) -> Option<u16>
+    ensures form { result ≡ count_of word.now }
+    ensures range { IfSome result (λ n. (1 ≤ n) × (n ≤ 1000)) }
+{
+    if !are_digits(word.as_bytes(), 4) || has_zero_in_front(word.as_bytes()) {
+        return None;
+    }
+    match word.parse::<u16>() {
+        Ok(count) => at_most_thousand(count),
+        Err(_) => None,
+    }
+}
+
+fn has_zero_in_front(word: &[u8]) -> bool
+    ensures { result ≡ has_zero_in_front word.now }
+{
+    match word.split_first() {
+        Some((first, _)) => *first == b'0',
+        None => false,
+    }
+}
+
+fn at_most_thousand(count: u16) -> Option<u16>
+    ensures { result ≡ at_most_thousand count }
+{
+    if count <= 1000 { Some(count) } else { None }
 }

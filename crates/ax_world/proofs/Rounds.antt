@@ -5,10 +5,10 @@ use Rattle.ax_base.specs.declared.ids.Who.{Who}
 use Rattle.ax_base.specs.declared.ids.Who.TheVariants.{Page, Client}
 use Rattle.story_check.specs.Stories.{Script, stuck}
 use Rattle.story_check.proofs.Caps.{goes}
-use Rattle.ax_world.specs.Machine.{State, start, step, after_turns, alternate, lines_done, IsOver, InRounds, played}
+use Rattle.ax_world.specs.Machine.{State, start, step, after_turns, alternate, lines_done, IsOver, InRounds, played, played_in_turns}
 use Rattle.ax_answer.specs.Legal.{IsLegal}
 use Rattle.ax_world.proofs.Standing.{Stands}
-use Rattle.ax_world.proofs.Playing.{stands_always, after-append, alternate-add, moves, twice, played_over, same_rounds, page_within, client_within, legal_over}
+use Rattle.ax_world.proofs.Playing.{stands_always, after-append, alternate-add, moves, twice, played_over, same_rounds, over_after, page_within, client_within, legal_over}
 
 pub step_more : (s : Script) (turns : List Who) (i : ℕ) (d : Who) (c new : State) → i < length turns → c ≡ after_turns s (take i turns) start → new ≡ (step s c (get_or turns i d)).state → new ≡ after_turns s (take (i + 1) turns) start
 step_more s turns i d c new h e f =
@@ -54,6 +54,12 @@ no_rounds s c turns e = e ∙ ap (λ l. after_turns s l start) (sym (append-none
 -- what rounds lead to is what is played
 pub rounds_end : (s : Script) (c d : State) → stuck s ≡ false → c ≡ after_turns s s.turns start → InRounds s c d → IsOver s d → d ≡ played s
 rounds_end s c d free e r over = round_ends s r.0 d free (r.1 s.turns e) over
+
+-- what rounds from the start lead to is what alternate turns alone come to
+pub rounds_alone : (s : Script) (c d : State) → stuck s ≡ false → c ≡ start → InRounds s c d → IsOver s d → d ≡ played_in_turns s
+rounds_alone s c d free e r over =
+    let is = r.1 [] e in
+    is ∙ same_rounds s [] r.0 (length s.page + length s.client) (subst (IsOver s) is over) (over_after s start (goes s free) (stands_always s []))
 
 -- and its entries are legal
 pub rounds_legal : (s : Script) (c d : State) (turns : List Who) → c ≡ after_turns s turns start → InRounds s c d → IsOver s d → IsLegal s d.entries

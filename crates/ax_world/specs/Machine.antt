@@ -99,3 +99,11 @@ played s = after_turns s (s.turns ++ alternate (length s.page + length s.client)
 -- the transcript of the story that is played: its entries, and the number of flushes
 abbrev pub transcript_of : Script → Transcript
 transcript_of s = record { entries = (played s).entries; flushes = flushes s.page }
+
+-- what alternate turns alone come to, without the turns of the story
+abbrev pub played_in_turns : Script → State
+played_in_turns s = after_turns s (alternate (length s.page + length s.client)) start
+
+-- the transcript of that play
+abbrev pub transcript_in_turns : Script → Transcript
+transcript_in_turns s = record { entries = (played_in_turns s).entries; flushes = flushes s.page }

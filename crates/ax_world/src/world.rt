@@ -7,7 +7,7 @@ ghost use Rattle.ax_answer.specs.Answers.{is_answered};
 ghost use Rattle.ax_ask.specs.declared.transcripts.EntryBody.TheVariants.{Reply as ReplyBody, Notices as NoticesBody};
 ghost use Rattle.ax_answer.specs.Moments.{answer_at, AreAnswered, notices_of};
 ghost use Rattle.ax_answer.specs.Legal.{IsLegalTranscript};
-ghost use Rattle.ax_world.specs.Machine.{start, step, page_step, client_step, printed, IsOver, IsReached, InRounds, transcript_of};
+ghost use Rattle.ax_world.specs.Machine.{start, step, page_step, client_step, printed, IsOver, IsReached, InRounds, transcript_of, transcript_in_turns};
 ghost use Rattle.ax_world.specs.Worlds.{Gives};
 
 use crate::{Turn, playing_ends};
@@ -312,13 +312,14 @@ pub fn replay(alloc: Global, story: &Story) -> Result<Transcript, NoMemory>
     Ok(in_rounds(alloc, story, world)?.into_transcript())
 }
 
-/// Plays a story that is not stuck in alternate turns, the page first, and without its turn list: its transcript is legal, as
+/// Plays a story that is not stuck in alternate turns, the page first, and without its turn list. Its transcript is legal, as
 /// that of every order of turns. All its edits are accepted, and all its requests answered. The only error is want of memory.
 pub fn play_in_turns(alloc: Global, story: &Story) -> Result<Transcript, NoMemory>
     requires free { stuck story.now ≡ false }
     requires accepted { IsAccepted story.now }
     requires answered { AreAnswered story.now.client }
-    ensures { IfOk result (λ t. IsLegalTranscript story.now t) }
+    ensures value { IfOk result (λ t. t ≡ transcript_in_turns story.now) }
+    ensures legal { IfOk result (λ t. IsLegalTranscript story.now t) }
 {
     let world = World::new(alloc, story)?;
     Ok(in_rounds(alloc, story, world)?.into_transcript())

@@ -47,6 +47,7 @@ module _ (r : Record) (own : r.id ≡ root) (top : r.parent ≡ None) (bare : r.
     deeper = λ n k kid. absurd (no_kid n k kid);
     shallow = λ n. omega arith;
     rising = λ k low. absurd (omega arith);
+    few = omega arith;
     own_id = λ n x is. ap (λ (y : Record). y.id) (sym (found n x is).0) ∙ own ∙ sym (found n x is).1;
     has_root = refl;
     root_parent = top;

@@ -1,15 +1,15 @@
 -- The tree of each moment of an accepted story is a tree.
-use Rattle.std.proofs.Common.{◌≡◌, ◌≢◌, inl, inr, ℕ, zero, suc, ◌+◌, ◌-◌, ◌≤◌, List, [], ◌∷◌, Bool, true, false, Option, Some, None, Contains, refl, sym, ap, subst, ◌∙◌, arith}
-use Rattle.std.specs.Prelude.{not, nat_eq, nat_lt, ◌==◌, codes}
+use Rattle.std.proofs.Common.{◌≡◌, ◌≢◌, inl, inr, ℕ, zero, suc, ◌+◌, ◌-◌, ◌≤◌, List, [], ◌∷◌, length, Bool, true, false, Option, Some, None, Contains, refl, sym, ap, subst, ◌∙◌, arith}
+use Rattle.std.specs.Prelude.{not, nat_eq, nat_lt, nat_le, ◌==◌, codes}
 use Rattle.std.specs.List.{list_any}
 use Rattle.std.specs.Ordering.{nat_cmp}
 use Rattle.std.specs.BTreeMap.{is_at}
 use Rattle.std.specs.Cmp.{nat_eq_equiv}
-use Rattle.std.proofs.lemmas.Bool.{false≢true, ltb-false, or_left, or_right, or_parts}
+use Rattle.std.proofs.lemmas.Bool.{false≢true, ltb-false, leb-false, or_left, or_right, or_parts}
 use Rattle.std.proofs.lemmas.Map.Views.{list_any-from_Contains}
 use Rattle.ax_base.specs.declared.body.Body.{Body}
 use Rattle.ax_base.specs.declared.body.Body.TheVariants.{Element, Words}
-use Rattle.ax_base.specs.Document.{Document, root, has, depth, body, is_text, lineage}
+use Rattle.ax_base.specs.Document.{Document, root, ids, has, depth, body, is_text, lineage}
 use Rattle.ax_base.specs.Rects.{HasRectsWithin}
 use Rattle.ax_base.specs.Runs.{KeepsRuns}
 use Rattle.ax_base.specs.Texts.{IsFitting}
@@ -30,6 +30,7 @@ use Rattle.ax_dom.specs.Subtrees.{subtree}
 use Rattle.ax_dom.specs.Used.{is_used}
 use Rattle.ax_dom.proofs.Amended.{kind_stays, body_fits, shape_amended, body_here, body_apart}
 use Rattle.ax_dom.proofs.Bounded.{no_frame_within, no_runs_within, body_within}
+use Rattle.ax_dom.proofs.Few.{few_nodes}
 use Rattle.ax_dom.proofs.Fitting.{text_fits}
 use Rattle.ax_dom.proofs.Fresh.{new_kept}
 use Rattle.ax_dom.proofs.Inserts.{tree_after, has_cases}
@@ -61,6 +62,7 @@ record IsFree (d : Document) (e : Edit) : Type 0 where
   outside : goes_into_itself d e ≡ false
   below : removes_root e ≡ false
   low : goes_too_deep d e ≡ false
+  room : is_one_too_many d e ≡ false
   right : breaks_runs d e ≡ false
   short : is_too_long e ≡ false
 
@@ -86,6 +88,7 @@ is_free d e none =
       outside = off.1.1.1.1.1.0;
       below = off.1.1.1.1.1.1.0;
       low = off.1.1.1.1.1.1.1.0;
+      room = off.1.1.1.1.1.1.1.1.0;
       right = off.1.1.1.1.1.1.1.1.1.0;
       short = off.1.1.1.1.1.1.1.1.1.1.0;
     }
@@ -96,7 +99,7 @@ differ n off same = false≢true (sym off ∙ ap (λ k. k == root) same)
 
 -- a new node
 module _ (d : Document) (g : IsGrown d) (id into : ℕ) (before : Option ℕ) (b : Body) (known : has d into ≡ true) (taken : (id == root) ≡ false) (fresh : is_used d id ≡ false)
-    (element : is_text (body d into) ≡ false) (deep : nat_lt 64 (depth d into + 1) ≡ false) (fit : IsFitting b) (right : KeepsRuns b) (near : HasRectsWithin b) where
+    (element : is_text (body d into) ≡ false) (deep : nat_lt 64 (depth d into + 1) ≡ false) (more : nat_le 65536 (length d.used) ≡ false) (fit : IsFitting b) (right : KeepsRuns b) (near : HasRectsWithin b) where
   lacks : has d id ≡ false
   lacks = go (has d id) refl
     where
@@ -107,10 +110,13 @@ module _ (d : Document) (g : IsGrown d) (id into : ℕ) (before : Option ℕ) (b
   low : g.tree.level into ≤ 63
   low = let l = depth-level d g.tree into known in let m = ltb-false 64 (depth d into + 1) deep in omega arith
 
+  room : length (ids d) ≤ 65536
+  room = let few = few_nodes d g.tree.rising g.marked in let m = leb-false 65536 (length d.used) more in omega arith
+
   grown_insert : IsGrown (inserted d id into before b)
   grown_insert = record {
-    tree = tree_after d g.tree id into before b lacks known low element fit right near;
-    marked = λ n there top. sym (list_any-insert_key n id d.used) ∙ (elim (has_cases d g.tree id into before b lacks known low element fit right near n there) [
+    tree = tree_after d g.tree id into before b lacks known low element room fit right near;
+    marked = λ n there top. sym (list_any-insert_key n id d.used) ∙ (elim (has_cases d g.tree id into before b lacks known low element room fit right near n there) [
       | inl same ↦ or_left (finds n id) (list_any (is_at (nat_cmp n)) d.used) (finds_same n id same)
       | inr was ↦ or_right (finds n id) (list_any (is_at (nat_cmp n)) d.used) (g.marked n was top)
     ]);
@@ -183,11 +189,11 @@ grown_edit : (d : Document) (e : Edit) → IsGrown d → MayBeDone d e → IsGro
 grown_edit d (InsertElement id into before tag attrs) g may =
     let f = is_free d (InsertElement id into before tag attrs) may.0 in
     let fresh = or_parts (id == root) (is_used d id) f.fresh in
-    grown_insert d g id into before (Element tag attrs no_frame) (was_true (has d into) f.known) fresh.0 fresh.1 f.element f.low tt tt no_frame_within
+    grown_insert d g id into before (Element tag attrs no_frame) (was_true (has d into) f.known) fresh.0 fresh.1 f.element f.low f.room tt tt no_frame_within
 grown_edit d (InsertText id into before new) g may =
     let f = is_free d (InsertText id into before new) may.0 in
     let fresh = or_parts (id == root) (is_used d id) f.fresh in
-    grown_insert d g id into before (Words new []) (was_true (has d into) f.known) fresh.0 fresh.1 f.element f.low (text_fits new f.short) refl no_runs_within
+    grown_insert d g id into before (Words new []) (was_true (has d into) f.known) fresh.0 fresh.1 f.element f.low f.room (text_fits new f.short) refl no_runs_within
 grown_edit d (Remove id) g may =
     let f = is_free d (Remove id) may.0 in
     grown_remove d g id (differ id f.below)

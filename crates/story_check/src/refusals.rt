@@ -35,7 +35,7 @@ pub enum Cause {
     NoNode,
     /// The id of the new node is the root's, or was inserted before.
     UsedId,
-    /// The node to stand before is no child of the parent, or is the moved node itself.
+    /// `before` is not a child of `into`, or is the node being moved.
     BadPlace,
     /// An element is wanted where a text stands.
     NotElement,
@@ -49,7 +49,7 @@ pub enum Cause {
     TooDeep,
     /// As many nodes were inserted before as may ever be: 65,536.
     TooMany,
-    /// The runs do not cover the text from its begin to its end, or their lines fall.
+    /// The runs do not cover the text from start to end, or a line number decreases.
     BadRuns,
     /// An attribute value has more than 4,096 bytes, or a text more than 65,536 characters.
     TooLong,

@@ -3,6 +3,9 @@ use crate::{accept, accept_last, base_dom, last_dom};
 use ax_base::ObjId;
 use std::test::Fail;
 
+/// Takes what may be handed to another thread.
+fn needs_send<T: Send>(_: &T) {}
+
 #[test]
 fn a_story_has_its_documents(rt: HostRuntime) -> Result<(), Fail> {
     let alloc = rt.alloc();
@@ -10,6 +13,8 @@ fn a_story_has_its_documents(rt: HostRuntime) -> Result<(), Fail> {
     let Ok(story) = accept(alloc, text.as_bytes()) else {
         return Err(Fail::from("no story"));
     };
+    needs_send(&story);
+    needs_send(&story.client());
     let base = base_dom(alloc, &story)?;
     let last = last_dom(alloc, &story)?;
     assert_eq!(rt; base.focus(), None);

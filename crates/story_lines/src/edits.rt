@@ -75,7 +75,6 @@ fn insert_text_of(alloc: Global, value: &Value) -> Result<Option<Edit>, NoMemory
     }))
 }
 
-/// Remove.
 #[tactic(auto, unfolding(crate::specs::Forms::remove_of))]
 pub(crate) fn remove_of(value: &Value) -> Option<Edit>
     ensures { result ≡ remove_of (view value.now) }
@@ -86,7 +85,6 @@ pub(crate) fn remove_of(value: &Value) -> Option<Edit>
     Some(Edit::Remove(id_at(value, "remove")?))
 }
 
-/// Move.
 #[tactic(auto, unfolding(crate::specs::Forms::move_of))]
 pub(crate) fn move_of(value: &Value) -> Option<Edit>
     ensures { result ≡ move_of (view value.now) }
@@ -188,7 +186,6 @@ pub(crate) fn frame_of(value: &Value) -> Option<Edit>
     Some(Edit::Frame { id, rect })
 }
 
-/// Focus.
 #[tactic(auto, unfolding(crate::specs::Forms::focus_of))]
 pub(crate) fn focus_of(value: &Value) -> Option<Edit>
     ensures { result ≡ focus_of (view value.now) }

@@ -22,7 +22,6 @@ use std::alloc::Global;
 /// The greatest number of a moment.
 const MAX_MOMENT: u32 = 1_073_741_823;
 
-/// Start.
 #[tactic(auto, unfolding(crate::specs::Forms::start_of))]
 fn start_of(value: &Value) -> Option<Line>
     ensures { result ≡ start_of (view value.now) }
@@ -51,7 +50,6 @@ fn moment_by(value: &Value, word: &str) -> Option<Moment>
     Some(Moment(whole_at(value, word, 0, MAX_MOMENT)?))
 }
 
-/// Flush.
 #[tactic(auto, unfolding(crate::specs::Forms::flush_of))]
 fn flush_of(value: &Value) -> Option<Line>
     ensures { result ≡ flush_of (view value.now) }
@@ -63,7 +61,6 @@ fn flush_of(value: &Value) -> Option<Line>
     }
 }
 
-/// Until.
 #[tactic(auto, unfolding(crate::specs::Forms::until_of))]
 fn until_of(value: &Value) -> Option<Line>
     ensures { result ≡ until_of (view value.now) }
@@ -71,7 +68,6 @@ fn until_of(value: &Value) -> Option<Line>
     Some(Line::Until(moment_by(value, "until")?))
 }
 
-/// Ask.
 #[tactic(auto, unfolding(crate::specs::Forms::ask_of))]
 fn ask_of(alloc: Global, value: &Value) -> Result<Option<Line>, NoMemory>
     ensures { IfOk result (λ line. line ≡ ask_of (view value.now)) }
@@ -82,7 +78,6 @@ fn ask_of(alloc: Global, value: &Value) -> Result<Option<Line>, NoMemory>
     }
 }
 
-/// Again.
 #[tactic(auto, unfolding(crate::specs::Forms::again_of))]
 fn again_of(alloc: Global, value: &Value) -> Result<Option<Line>, NoMemory>
     ensures { IfOk result (λ line. line ≡ again_of (view value.now)) }
@@ -93,7 +88,6 @@ fn again_of(alloc: Global, value: &Value) -> Result<Option<Line>, NoMemory>
     }
 }
 
-/// Hear.
 #[tactic(auto, unfolding(crate::specs::Forms::hear_of))]
 fn hear_of(value: &Value) -> Option<Line>
     ensures { result ≡ hear_of (view value.now) }
@@ -105,7 +99,6 @@ fn hear_of(value: &Value) -> Option<Line>
     }
 }
 
-/// Await.
 #[tactic(auto, unfolding(crate::specs::Forms::await_of))]
 fn await_of(value: &Value) -> Option<Line>
     ensures { result ≡ await_of (view value.now) }
@@ -113,7 +106,6 @@ fn await_of(value: &Value) -> Option<Line>
     Some(Line::Await(moment_by(value, "await")?))
 }
 
-/// Notices.
 #[tactic(auto, unfolding(crate::specs::Forms::notices_of))]
 fn notices_of(value: &Value) -> Option<Line>
     ensures { result ≡ notices_of (view value.now) }
@@ -125,7 +117,6 @@ fn notices_of(value: &Value) -> Option<Line>
     }
 }
 
-/// Turns.
 #[tactic(auto, unfolding(crate::specs::Forms::turns_of))]
 fn turns_of(alloc: Global, value: &Value) -> Result<Option<Line>, NoMemory>
     ensures { IfOk result (λ line. line ≡ turns_of (view value.now)) }

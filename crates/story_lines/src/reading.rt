@@ -25,13 +25,13 @@ pub enum Line {
     Until(Moment),
     /// The client asks.
     Ask(Request),
-    /// The client asks again what it was told before, of the tree that it has by now.
+    /// The client asks without taking: the reply is of the tree that it took last.
     Again(Request),
     /// The client hears how many moments are published.
     Hear,
     /// The client waits until this moment is published.
     Await(Moment),
-    /// The client lists the notices that it has taken.
+    /// The client lists the notices since those that it listed last.
     Notices,
     /// The order in which the two sides take turns, `P` for the page and `C` for the client. Any text is read.
     Turns(Text),

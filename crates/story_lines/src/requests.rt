@@ -77,7 +77,6 @@ fn place_at(value: &Value) -> Option<u32>
     }
 }
 
-/// Children.
 #[tactic(auto, unfolding(crate::specs::Requests::children_of))]
 fn children_of(word: &str, value: &Value) -> Option<Request>
     ensures { result ≡ children_of word.now (view value.now) }
@@ -139,7 +138,6 @@ fn one_marker_of(word: &str, value: &Value) -> Option<Request>
     one_marker(word, marker_at(value, "at")?)
 }
 
-/// Search.
 #[tactic(auto, unfolding(crate::specs::Requests::search_of))]
 fn search_of(alloc: Global, word: &str, value: &Value) -> Result<Option<Request>, NoMemory>
     ensures { IfOk result (λ request. request ≡ search_of word.now (view value.now)) }
@@ -153,7 +151,6 @@ fn search_of(alloc: Global, word: &str, value: &Value) -> Result<Option<Request>
     Ok(Some(Request::Search(search)))
 }
 
-/// Hit.
 #[tactic(auto, unfolding(crate::specs::Requests::hit_of))]
 fn hit_of(word: &str, value: &Value) -> Option<Request>
     ensures { result ≡ hit_of word.now (view value.now) }

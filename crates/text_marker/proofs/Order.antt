@@ -12,8 +12,8 @@ use Rattle.ax_record.specs.declared.record.Record.{Record}
 use Rattle.ax_record.specs.Tree.{Tree, record_at, has_object, preorder}
 use Rattle.ax_record.specs.ObjectTrees.{IsObjectTree}
 use Rattle.ax_record.proofs.Preorder.{in_preorder}
-use Rattle.ax_walk.specs.Orders.{wanted_at, before, after}
-use Rattle.ax_walk.proofs.Lists.{parted}
+use Rattle.ax_record.specs.Orders.{wanted_at, before, after}
+use Rattle.ax_record.proofs.Lists.{parted}
 use Rattle.text_order.specs.Texts.{is_text, later_texts, earlier_texts, place}
 use Rattle.text_order.proofs.Filters.{kept, filter_found, filter-reverse}
 use Rattle.text_order.proofs.Laters.{text_known}

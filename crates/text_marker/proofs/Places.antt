@@ -9,8 +9,8 @@ use Rattle.ax_base.proofs.Joins.{Contains-cases}
 use Rattle.ax_ask.specs.declared.requests.Marker.{Marker}
 use Rattle.ax_record.specs.Tree.{Tree}
 use Rattle.ax_record.specs.ObjectTrees.{IsObjectTree}
-use Rattle.ax_walk.specs.Orders.{before}
-use Rattle.ax_walk.proofs.Lists.{before_is}
+use Rattle.ax_record.specs.Orders.{before}
+use Rattle.ax_record.proofs.Lists.{before_is}
 use Rattle.text_order.specs.Texts.{is_text, texts, later_texts, earlier_texts, place}
 use Rattle.text_order.proofs.Laters.{parted_texts, texts_once}
 use Rattle.text_marker.specs.Markers.{is_above}

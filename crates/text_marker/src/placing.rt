@@ -10,8 +10,7 @@ use crate::MarkError;
 use crate::standing::object_of;
 use ax_ask::{Marker, Placing};
 use ax_base::ObjId;
-use ax_record::{Record, TreeView};
-use ax_walk::{Wanted, first_after};
+use ax_record::{Record, TreeView, Wanted, first_after};
 use std::convert::Infallible;
 
 /// Where a marker stands, seen from another: by the places of their texts, and in one text by their offsets. It takes no memory

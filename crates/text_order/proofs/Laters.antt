@@ -10,8 +10,8 @@ use Rattle.ax_record.specs.declared.record.Record.{Record}
 use Rattle.ax_record.specs.Tree.{Tree, preorder, has_object, record_at}
 use Rattle.ax_record.specs.ObjectTrees.{IsObjectTree}
 use Rattle.ax_record.proofs.Preorder.{preorder_once, in_preorder}
-use Rattle.ax_walk.specs.Orders.{before, after}
-use Rattle.ax_walk.proofs.Lists.{after_is, before_is, parted}
+use Rattle.ax_record.specs.Orders.{before, after}
+use Rattle.ax_record.proofs.Lists.{after_is, before_is, parted}
 use Rattle.text_order.specs.Texts.{is_text, texts, later_texts, earlier_texts}
 use Rattle.text_order.proofs.Filters.{kept, filter_once, filter_none, filter_found, filter-reverse}
 

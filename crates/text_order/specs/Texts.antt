@@ -1,7 +1,7 @@
 -- The text objects of a tree, in preorder (this project's own).
 use Rattle.std.specs.Prelude.{ℕ, Bool, List, filter, length, reverse, Option, Some, None, is_some, if◌then◌else◌}
 use Rattle.ax_record.specs.Tree.{Tree, preorder}
-use Rattle.ax_walk.specs.Orders.{wanted_at, before, after}
+use Rattle.ax_record.specs.Orders.{wanted_at, before, after}
 
 -- whether an id is that of a text object
 abbrev pub is_text : Tree → ℕ → Bool

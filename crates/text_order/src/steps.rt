@@ -2,12 +2,11 @@
 ghost use Rattle.std.specs.Prelude.{◌≡◌, ◌∷◌, [], Bool, IfOk, IfSome, IsTrue, MatchOption, is_some, find};
 ghost use Rattle.ax_record.specs.declared.record.Record.{Record};
 ghost use Rattle.ax_record.specs.Tree.{has_object, preorder};
-ghost use Rattle.ax_walk.specs.Orders.{after};
+ghost use Rattle.ax_record.specs.Orders.{after};
 ghost use Rattle.text_order.specs.Texts.{is_text, later_texts, earlier_texts};
 
 use ax_base::ObjId;
-use ax_record::{Record, TreeView};
-use ax_walk::{Wanted, first_after, last_before};
+use ax_record::{Record, TreeView, Wanted, first_after, last_before};
 use std::convert::Infallible;
 
 /// Text objects are looked for.

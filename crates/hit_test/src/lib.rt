@@ -1,0 +1,6 @@
+//! The object at a point.
+#![tactic(auto)]
+
+mod point;
+
+pub use point::hit;

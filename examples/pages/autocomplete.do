@@ -1,0 +1,1 @@
+[{"click": "#tags"}, {"type": "ja"}, {"key": "ArrowDown"}, {"key": "ArrowDown"}, {"key": "Enter"}]

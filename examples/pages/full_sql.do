@@ -1,0 +1,1 @@
+[{"key": "Tab"}, {"key": "Tab"}, {"click": "#search_menubutton"}]

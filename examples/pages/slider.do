@@ -1,0 +1,1 @@
+[{"key": "Tab"}, {"key": "ArrowRight"}, {"key": "End"}]

@@ -1,0 +1,74 @@
+{"insert":2,"into":1,"text":"\n"}
+{"insert":3,"into":1,"tag":"body","attrs":{"display":"block"}}
+{"insert":4,"into":3,"text":"\n\n"}
+{"insert":5,"into":3,"tag":"div","attrs":{"id":"slider","display":"block"}}
+{"insert":6,"into":3,"text":"\n\n"}
+{"insert":7,"into":3,"tag":"div","attrs":{"class":"demo-description","display":"block"}}
+{"insert":8,"into":7,"text":"\n"}
+{"insert":9,"into":7,"tag":"p","attrs":{"display":"block"}}
+{"insert":10,"into":9,"text":"The basic slider is horizontal and has a single handle that can be moved with the mouse or by using the arrow keys."}
+{"insert":11,"into":7,"text":"\n"}
+{"insert":12,"into":3,"text":"\n\n\n"}
+{"set":1,"name":"lang","value":"en"}
+{"set":1,"name":"class","value":"demo-loading"}
+{"set":1,"name":"display","value":"block"}
+{"frame":1,"rect":[0,0,1024,91]}
+{"frame":3,"rect":[8,8,1008,75]}
+{"frame":5,"rect":[8,8,1008,0]}
+{"frame":7,"rect":[8,8,1008,75]}
+{"frame":9,"rect":[20,36,984,19]}
+{"runs":10,"list":[[0,115,0,20,36,932,19]]}
+{"start":1}
+{"await":0}
+{"again":{"q":"focus"}}
+{"insert":13,"into":5,"tag":"span","attrs":{"tabindex":"0","class":"ui-slider-handle ui-corner-all ui-state-default","style":"left: 0%;","display":"block"}}
+{"set":1,"name":"class","value":""}
+{"frame":1,"rect":[0,0,1024,106]}
+{"frame":3,"rect":[8,8,1008,90]}
+{"set":5,"name":"class","value":"ui-slider ui-corner-all ui-slider-horizontal ui-widget ui-widget-content"}
+{"frame":5,"rect":[8,8,1008,15]}
+{"frame":13,"rect":[-1,4,22,21]}
+{"frame":7,"rect":[8,23,1008,75]}
+{"frame":9,"rect":[20,51,984,19]}
+{"runs":10,"list":[[0,115,0,20,51,932,19]]}
+{"flush":true}
+{"until":1}
+{"await":1}
+{"again":{"q":"focus"}}
+{"notices":true}
+{"set":13,"name":"class","value":"ui-slider-handle ui-corner-all ui-state-default ui-state-focus"}
+{"focus":13}
+{"flush":true}
+{"until":2}
+{"await":2}
+{"again":{"q":"focus"}}
+{"again":{"q":"role","id":13}}
+{"again":{"q":"name","id":13}}
+{"again":{"q":"description","id":13}}
+{"again":{"q":"states","id":13}}
+{"again":{"q":"value","id":13}}
+{"notices":true}
+{"set":13,"name":"style","value":"left: 1%;"}
+{"frame":13,"rect":[9,4,22,21]}
+{"flush":true}
+{"until":3}
+{"await":3}
+{"again":{"q":"focus"}}
+{"again":{"q":"role","id":13}}
+{"again":{"q":"name","id":13}}
+{"again":{"q":"description","id":13}}
+{"again":{"q":"states","id":13}}
+{"again":{"q":"value","id":13}}
+{"notices":true}
+{"set":13,"name":"style","value":"left: 100%;"}
+{"frame":13,"rect":[1005,4,22,21]}
+{"flush":true}
+{"until":4}
+{"await":4}
+{"again":{"q":"focus"}}
+{"again":{"q":"role","id":13}}
+{"again":{"q":"name","id":13}}
+{"again":{"q":"description","id":13}}
+{"again":{"q":"states","id":13}}
+{"again":{"q":"value","id":13}}
+{"notices":true}

@@ -1,0 +1,1 @@
+[{"click": "#ui-id-2"}, {"key": "ArrowRight"}]

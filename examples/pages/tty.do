@@ -1,0 +1,1 @@
+[{"click": ".related .inline-search input[name=q]"}, {"type": "raw"}, {"key": "Tab"}]
