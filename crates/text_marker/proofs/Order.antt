@@ -26,22 +26,22 @@ use Rattle.text_marker.proofs.Places.{earlier_place, later_place}
 module _ (q : ℕ → Bool) where
   in_kept : (xs : List ℕ) (y : ℕ) → Contains xs y → q y ≡ true → Contains (filter q xs) y
   in_kept [] y inside passes = inside
-  in_kept (x ∷ xs) y inside passes = go (q x) refl (Contains-cases y x xs inside)
+  in_kept (x ∷ xs) y inside passes = go (q x) refl (Contains-cases y x xs inside) (λ more. in_kept xs y more passes)
     where
-      go : (b : Bool) → q x ≡ b → (x ≡ y) ⊎ Contains xs y → Contains (filter q (x ∷ xs)) y
-      go true e (inl is) = subst (λ l. Contains l y) (sym (kept q x xs true e)) (subst (λ z. Contains (x ∷ filter q xs) z) is (Contains-head x (filter q xs)))
-      go true e (inr more) = subst (λ l. Contains l y) (sym (kept q x xs true e)) (Contains-tail x y (filter q xs) (in_kept xs y more passes))
-      go false e (inl is) = absurd (false≢true (sym e ∙ ap q is ∙ passes))
-      go false e (inr more) = subst (λ l. Contains l y) (sym (kept q x xs false e)) (in_kept xs y more passes)
+      go : (b : Bool) → q x ≡ b → (x ≡ y) ⊎ Contains xs y → (Contains xs y → Contains (filter q xs) y) → Contains (filter q (x ∷ xs)) y
+      go true e (inl is) kept_on = subst (λ l. Contains l y) (sym (kept q x xs true e)) (subst (λ z. Contains (x ∷ filter q xs) z) is (Contains-head x (filter q xs)))
+      go true e (inr more) kept_on = subst (λ l. Contains l y) (sym (kept q x xs true e)) (Contains-tail x y (filter q xs) (kept_on more))
+      go false e (inl is) kept_on = absurd (false≢true (sym e ∙ ap q is ∙ passes))
+      go false e (inr more) kept_on = subst (λ l. Contains l y) (sym (kept q x xs false e)) (kept_on more)
 
   never : (xs : List ℕ) (y : ℕ) → Contains xs y → q y ≡ true → find q xs ≡ None → ⊥
   never [] y inside passes e = absurd (omega arith)
-  never (x ∷ xs) y inside passes e = go (q x) refl (Contains-cases y x xs inside)
+  never (x ∷ xs) y inside passes e = go (q x) refl (Contains-cases y x xs inside) (λ more later. never xs y more passes later)
     where
-      go : (b : Bool) → q x ≡ b → (x ≡ y) ⊎ Contains xs y → ⊥
-      go true b which = let wrong : Some x ≡ None = sym (ap (λ c. cond c (Some x) (find q xs)) b) ∙ e in grind arith
-      go false b (inl is) = false≢true (sym b ∙ ap q is ∙ passes)
-      go false b (inr more) = never xs y more passes (sym (ap (λ c. cond c (Some x) (find q xs)) b) ∙ e)
+      go : (b : Bool) → q x ≡ b → (x ≡ y) ⊎ Contains xs y → (Contains xs y → find q xs ≡ None → ⊥) → ⊥
+      go true b which rest = let wrong : Some x ≡ None = sym (ap (λ c. cond c (Some x) (find q xs)) b) ∙ e in grind arith
+      go false b (inl is) rest = false≢true (sym b ∙ ap q is ∙ passes)
+      go false b (inr more) rest = rest more (sym (ap (λ c. cond c (Some x) (find q xs)) b) ∙ e)
 
 in_parts : (xs ys : List ℕ) (x y : ℕ) → Contains (xs ++ x ∷ ys) y → Contains xs y ⊎ ((x ≡ y) ⊎ Contains ys y)
 in_parts [] ys x y inside = inr (Contains-cases y x ys inside)

@@ -1,10 +1,12 @@
 -- The line of a marker, by the runs of its text and of the texts around that.
-use Rattle.std.proofs.Common.{◌≡◌, ℕ, zero, suc, ◌<◌, ◌≤◌, List, [], ◌∷◌, ◌++◌, map, reverse, length, take, drop, Contains, Bool, true, false, cond, ◌&&◌, eqb, refl, sym, ap, subst, ◌∙◌, arith, append_assoc, append-nil, inl, inr, chars}
+use Rattle.std.proofs.Common.{◌≡◌, ℕ, zero, suc, ◌+◌, ◌<◌, ◌≤◌, List, [], ◌∷◌, ◌++◌, map, reverse, length, take, drop, get_or, Contains, Bool, true, false, cond, ◌&&◌, eqb, refl, sym, ap, subst, ◌∙◌, arith, append_assoc, append-nil, inl, inr, chars}
 use Rattle.std.specs.Prelude.{find, Option, Some, None, Result, Ok, Err, slice_get}
 use Rattle.std.specs.List.{flat_map}
 use Rattle.std.specs.Option.{option_map, option_map_or, unwrap_or}
+use Rattle.std.proofs.Math.Seq.{take-suc}
+use Rattle.std.proofs.lemmas.Option.{slice_get-get_or}
 use Rattle.std.proofs.lemmas.Bool.Decides.{eqb_tells}
-use Rattle.std.proofs.lemmas.List.{reverse-append, reverse-reverse, map-append}
+use Rattle.std.proofs.lemmas.List.{reverse-append, reverse-reverse, map-append, length-drop, take_all}
 use Rattle.ax_ask.specs.declared.requests.Marker.{Marker}
 use Rattle.ax_base.specs.declared.rect.Run.{Run}
 use Rattle.ax_record.specs.declared.record.Record.{Record}
@@ -133,6 +135,21 @@ module _ (t : Tree) (hangs : IsObjectTree t) (m : Marker) (r : Record) (s : List
       let ends_so : end ≡ stretch_end x.line (mark m.id x.past) (of_text m.id (drop (suc own) rs) ++ back) =
       ends ∙ ap (λ l. stretch_end x.line (mark m.id x.past) (of_text m.id l ++ flat_map (runs_at t) (later_texts t m.id))) is_rest in
       answer (Some (start, end)) ∙ ap (answered t m) (ap (λ a. Some (a, end)) starts_so ∙ ap (λ b. Some (stretch_start x.line (mark m.id x.first) (reverse pre ++ []), b)) ends_so ∙ sym whole)
+
+  -- the same of what an index reads
+  pub line_at : (own j k : ℕ) (d : Run) (start end : Marker) → own < length rs → j ≡ suc own → k + j ≡ length rs → find (is_run_of m.offset count) (take own rs) ≡ None → ((x : Run) → slice_get rs own ≡ Some x → is_run_of m.offset count x ≡ true)
+      → start ≡ stretch_start (get_or rs own d).line (mark m.id (get_or rs own d).first) (reverse (of_text m.id (take own rs)) ++ flat_map (λ n. reverse (runs_at t n)) (earlier_texts t m.id))
+      → end ≡ stretch_end (get_or rs own d).line (mark m.id (get_or rs own d).past) (of_text m.id (take k (drop j rs)) ++ flat_map (runs_at t) (later_texts t m.id))
+      → Ok (Some (start, end)) ≡ answered t m (line_range t m)
+  line_at own j k d start end low next all none holds starts ends =
+      let size = length-drop j rs in
+      let there = slice_get-get_or rs own d low in
+      line_some own (get_or rs own d) (take own rs) (take k (drop j rs)) start end there none (holds (get_or rs own d) there) refl (take_all k (drop j rs) (omega arith) ∙ ap (λ n. drop n rs) next) starts ends
+
+-- one more run is not the one
+pub not_yet : (q : Run → Bool) (rs : List Run) (own j : ℕ) (d : Run) → own < length rs → j ≡ suc own → find q (take own rs) ≡ None → q (get_or rs own d) ≡ false → find q (take j rs) ≡ None
+not_yet q rs own j d low next none fails =
+    ap (λ n. find q (take n rs)) next ∙ ap (find q) (take-suc rs own d low) ∙ behind q (take own rs) (get_or rs own d ∷ []) none ∙ skips q (get_or rs own d) [] fails
 
 -- one run more, going back
 pub back_more : (line first : ℕ) (id i j : ℕ) (rs : List Run) (x : Run) (start : Marker) (more : List (ℕ × Run)) → j ≡ suc i → slice_get rs i ≡ Some x → x.line ≡ line
