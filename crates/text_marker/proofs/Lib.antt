@@ -1,0 +1,11 @@
+pub mod Sizes
+pub mod Stopping
+pub mod Finding
+pub mod Places
+pub mod Texts
+pub mod Moving
+pub mod Wording
+pub mod Order
+pub mod Stretches
+pub mod Going
+pub mod Rows

@@ -1,0 +1,5 @@
+pub mod Stops
+pub mod Markers
+pub mod Lines
+pub mod Ranges
+pub mod Answers
