@@ -2,15 +2,18 @@
 ghost use Rattle.std.specs.Prelude.{◌≡◌, ◌≤◌, length, IfOk};
 ghost use Rattle.ax_answer.specs.Answers.{asked_object, answer_of, answer_whole, answer, children_from};
 
+use crate::markers::{told_mark, told_order, told_span};
 use crate::searches::answer_search;
 use ax_ask::{Reply, Request};
 use ax_base::{Ids, NoMemory, ObjId};
 use ax_record::{Record, TreeView};
 use hit_test::hit;
 use std::alloc::Global;
+use text_marker::{compare, line_range, next_char, next_word, prev_char};
 
-/// What a tree answers to a request about its root, its focus or an object, to a search or to a point. It answers `Stale`
-/// exactly where the tree lacks the object that is asked about, or from which a search goes on. The only error is want of
+/// What a tree answers to a request about its root, its focus, an object or markers, to a search or to a point. It answers
+/// `Stale` exactly where the tree lacks an object that is asked about, or from which a search goes on, and else `Out` exactly
+/// where a marker stands in no text or past its end. The only error is want of
 /// memory for a copy of a text or of ids, or for a search.
 #[tactic(auto, using(ax_record::proofs::FewKids::few_of))]
 pub fn answer<T: TreeView>(alloc: Global, t: &T, q: &Request) -> Result<Reply, NoMemory>
@@ -74,13 +77,13 @@ fn answer_whole<T: TreeView>(alloc: Global, t: &T, q: &Request) -> Result<Reply,
         | Request::Frame(_)
         | Request::Parent(_)
         | Request::Children(_, _)
-        | Request::Compare(_, _)
-        | Request::NextChar(_)
-        | Request::PrevChar(_)
-        | Request::NextWord(_)
-        | Request::LineAt(_)
         | Request::TextOf(_, _)
         | Request::BoundsOf(_, _) => Reply::Nothing,
+        Request::Compare(a, b) => told_order(compare(t, *a, *b)),
+        Request::NextChar(at) => told_mark(next_char(t, *at)),
+        Request::PrevChar(at) => told_mark(prev_char(t, *at)),
+        Request::NextWord(at) => told_mark(next_word(t, *at)),
+        Request::LineAt(at) => told_span(line_range(t, *at)),
         Request::Search(search) => answer_search(alloc, t, search)?,
         Request::Hit(x, y) => match hit(t, *x, *y) {
             Some(id) => Reply::Hit(id),

@@ -7,7 +7,7 @@ use Rattle.story_check.specs.declared.story.ClientLine.{ClientLine}
 use Rattle.story_check.specs.declared.story.ClientLine.TheVariants.{Ask, Again, Hear, Await, Notices}
 use Rattle.story_check.specs.Stories.{Script}
 
--- The requests that are answered: all but those about markers.
+-- The requests that are answered: all but those about the text and the bounds of a range.
 abbrev pub is_answered : Request → Bool
 is_answered Root = true
 is_answered Focus = true
@@ -21,11 +21,11 @@ is_answered (Live id) = true
 is_answered (Frame id) = true
 is_answered (Parent id) = true
 is_answered (Children id from) = true
-is_answered (Compare a b) = false
-is_answered (NextChar at) = false
-is_answered (PrevChar at) = false
-is_answered (NextWord at) = false
-is_answered (LineAt at) = false
+is_answered (Compare a b) = true
+is_answered (NextChar at) = true
+is_answered (PrevChar at) = true
+is_answered (NextWord at) = true
+is_answered (LineAt at) = true
 is_answered (TextOf from to) = false
 is_answered (BoundsOf from to) = false
 is_answered (Search r) = true

@@ -6,7 +6,7 @@ ghost use Rattle.ax_session.specs.Built.{is_answered, is_answered_line, is_built
 use ax_ask::Request;
 use story_check::{ClientLine, Story};
 
-/// Whether a story is built today, if it is accepted: its client asks nothing but what is answered, and lists no notices.
+/// Whether a story is built today, if it is accepted: its client asks nothing but what is answered.
 pub fn is_built(story: &Story) -> bool
     ensures { result ≡ is_built story.now }
 {
@@ -33,7 +33,7 @@ fn is_answered_line(line: &ClientLine) -> bool
     }
 }
 
-/// Whether a request is answered: all are but those about markers.
+/// Whether a request is answered: all are but those about the text and the bounds of a range.
 fn is_answered(request: &Request) -> bool
     ensures { result ≡ is_answered request.now }
 {
@@ -50,14 +50,13 @@ fn is_answered(request: &Request) -> bool
         | Request::Frame(_)
         | Request::Parent(_)
         | Request::Children(_, _)
-        | Request::Search(_)
-        | Request::Hit(_, _) => true,
-        Request::Compare(_, _)
+        | Request::Compare(_, _)
         | Request::NextChar(_)
         | Request::PrevChar(_)
         | Request::NextWord(_)
         | Request::LineAt(_)
-        | Request::TextOf(_, _)
-        | Request::BoundsOf(_, _) => false,
+        | Request::Search(_)
+        | Request::Hit(_, _) => true,
+        Request::TextOf(_, _) | Request::BoundsOf(_, _) => false,
     }
 }
