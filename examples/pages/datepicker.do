@@ -1,1 +1,1 @@
-[{"click": "#datepicker"}, {"click": ".ui-datepicker-next"}, {"click": ".ui-datepicker-calendar a"}]
+[{"click": "#datepicker"}, {"click": ".ui-datepicker-next"}, {"click": ".ui-datepicker-next"}, {"click": ".ui-datepicker-prev"}]

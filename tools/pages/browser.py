@@ -13,7 +13,7 @@ except ImportError:
     websocket = None
 
 WIDTH, HEIGHT = 1024, 768
-START_SECONDS, ANSWER_SECONDS = 60, 60
+START_SECONDS, ANSWER_SECONDS, CLOSING_SECONDS, CLOSING_TRIES = 60, 60, 10, 50
 # Names of other machines have no address, so that a page reaches nothing but this machine.
 THIS_MACHINE_ALONE = "MAP * ~NOTFOUND, EXCLUDE localhost, EXCLUDE 127.0.0.1, EXCLUDE [::1]"
 
@@ -125,13 +125,25 @@ class Browser:
             self.receive(end - time.monotonic())
 
     def close(self):
+        """Ends the browser, and takes its folder away."""
         if self.socket is not None:
-            self.socket.close()
-        if self.process is not None:
-            self.process.terminate()
             try:
-                self.process.wait(10)
-            except subprocess.TimeoutExpired:
-                self.process.kill()
-                self.process.wait()
-        shutil.rmtree(self.folder, ignore_errors=True)
+                self.send("Browser.close")
+                self.socket.close()
+            except (OSError, websocket.WebSocketException):
+                pass
+        if self.process is not None:
+            self.end_process()
+        # A process of the browser may still write there for a moment.
+        for _ in range(CLOSING_TRIES):
+            shutil.rmtree(self.folder, ignore_errors=True)
+            if not os.path.exists(self.folder):
+                break
+            time.sleep(0.1)
+
+    def end_process(self):
+        try:
+            self.process.wait(CLOSING_SECONDS if self.socket is not None else 0)
+        except subprocess.TimeoutExpired:
+            self.process.kill()
+            self.process.wait()

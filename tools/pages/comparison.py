@@ -1,4 +1,5 @@
 """Compares the tree of a recorded page with Chromium's own."""
+import collections
 import json
 import subprocess
 
@@ -131,10 +132,12 @@ def compare(recording, program):
 
 def totals(alike, differences):
     """One line that counts what was compared."""
-    explained = sum(1 for each in differences if each.reason)
+    words = collections.Counter(each.reason for each in differences if each.reason)
+    explained = sum(words.values())
     both = [each for each in differences if each.ours and each.theirs and each.theirs.is_shown()]
     roles = alike + sum(1 for each in both if each.ours.role == each.theirs.role)
     names = alike + sum(1 for each in both if each.ours.name == each.theirs.name)
     shared = "in both trees %d: %d with the same role, %d with the same name" % (alike + len(both), roles, names)
-    counted = (alike, len(differences), explained, len(differences) - explained)
-    return shared + "; alike %d, different %d: %d by the profile, %d for no known reason" % counted
+    listed = " (%s)" % ", ".join("%s %d" % each for each in words.most_common()) if words else ""
+    counted = (alike, len(differences), explained, listed, len(differences) - explained)
+    return shared + "; alike %d, different %d: %d by the profile%s, %d for no known reason" % counted

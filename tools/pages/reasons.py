@@ -99,10 +99,20 @@ def inert(it):
     return is_only_ours(it) and it.theirs is not None and bool(INERT & set(it.theirs.why_ignored))
 
 
+def is_text_below(it, tag):
+    """Whether it is a text that only our tree shows, below such an element."""
+    above = (it.page.document.nodes[each] for each in it.page.document.above(it.number))
+    return is_only_ours(it) and is_text(it) and any(each.tag == tag for each in above)
+
+
 def label_text(it):
     """Of a label's text, which Chromium leaves to the box that it labels."""
-    above = (it.page.document.nodes[each] for each in it.page.document.above(it.number))
-    return is_only_ours(it) and is_text(it) and any(each.tag == "label" for each in above)
+    return is_text_below(it, "label")
+
+
+def option_text(it):
+    """Of an option's text in a closed list."""
+    return is_text_below(it, "select")
 
 
 def empty(it):
@@ -135,7 +145,7 @@ def references(it):
 DEPARTURES = [
     ("no node", no_node), ("title", title), ("pruned", pruned), ("blank", blank), ("visibility", visibility), ("inert", inert),
     ("table", layout_table), ("anchor", anchor), ("tag", tag), ("input", input_type), ("listitem", list_item),
-    ("label text", label_text), ("empty", empty), ("inline", inline), ("row", row), ("menuitem", menu_choice),
+    ("label text", label_text), ("option text", option_text), ("empty", empty), ("inline", inline), ("row", row), ("menuitem", menu_choice),
     ("nameless", name_not_taken), ("label", host_label), ("cut", cut), ("references", references),
 ]
 

@@ -122,8 +122,13 @@ class Recording:
             if params["payload"]:
                 self.take(json.loads(params["payload"]))
         elif method == "Runtime.executionContextDestroyed" and params["executionContextId"] == self.context:
-            self.is_gone = True
-            self.end("the page gave way to another")
+            self.leave()
+        elif method == "Runtime.executionContextsCleared" and self.context is not None:
+            self.leave()
+
+    def leave(self):
+        self.is_gone = True
+        self.end("the page gave way to another")
 
     def count_left_out(self, snapshot):
         for kind, key, name in snapshot["left"]:
