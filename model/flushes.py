@@ -120,8 +120,9 @@ class Page(Words):
         item = self.insert(self.section(), tag=tag, **({"attrs": attrs} if attrs else {}))
         if self.chance(0.7):
             self.insert(item, text=self.one_of(*SAID))
-        if self.chance(0.2):
-            self.insert(self.insert(item, tag=self.one_of("i", "p", "a", "label")), text=self.one_of(*SAID))
+        if self.chance(0.3):
+            inner = self.one_of({}, {}, {"hidden": ""}, {"aria-labelledby": self.references()}, {"id": self.one_of(*WORDS)})
+            self.insert(self.insert(item, tag=self.one_of("i", "p", "a", "label"), attrs=inner), text=self.one_of(*SAID))
 
     def word_wanders(self):
         """An id or a `for` that one element loses and another has."""
@@ -168,7 +169,7 @@ class Page(Words):
         self.do(text=id, to=self.one_of(*SAID, "%d" % self.random.randrange(1000)))
 
     def move(self):
-        id, into = self.one_of(self.element(), self.element_near()), self.one_of(self.section(), self.element(), self.element_near())
+        id, into = self.one_of(self.element(), self.element_near(), self.section()), self.one_of(self.section(), self.element(), self.element_near())
         children = self.document.nodes[into].children
         self.do(move=id, into=into, **({"before": self.one_of(*children)} if children and self.chance(0.7) else {}))
 
