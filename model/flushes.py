@@ -120,8 +120,9 @@ class Page(Words):
         item = self.insert(self.section(), tag=tag, **({"attrs": attrs} if attrs else {}))
         if self.chance(0.7):
             self.insert(item, text=self.one_of(*SAID))
-        if self.chance(0.2):
-            self.insert(self.insert(item, tag=self.one_of("i", "p", "a", "label")), text=self.one_of(*SAID))
+        if self.chance(0.3):
+            inner = self.one_of({}, {}, {"hidden": ""}, {"aria-labelledby": self.references()}, {"id": self.one_of(*WORDS)})
+            self.insert(self.insert(item, tag=self.one_of("i", "p", "a", "label"), attrs=inner), text=self.one_of(*SAID))
 
     def word_wanders(self):
         """An id or a `for` that one element loses and another has."""
@@ -160,7 +161,7 @@ class Page(Words):
     def section_shows_again(self):
         """What hides, prunes or ignores a section goes away, so that not all is hidden in the end."""
         for name in ("hidden", "aria-hidden", "display", "role"):
-            self.do(unset=self.one_of(self.section(), self.bearer(name)), name=name)
+            self.do(unset=self.one_of(self.section(), self.section(), self.bearer(name)), name=name)
 
     def text_changes(self):
         near = self.near()
@@ -168,7 +169,7 @@ class Page(Words):
         self.do(text=id, to=self.one_of(*SAID, "%d" % self.random.randrange(1000)))
 
     def move(self):
-        id, into = self.one_of(self.element(), self.element_near()), self.one_of(self.section(), self.element(), self.element_near())
+        id, into = self.one_of(self.element(), self.element_near(), self.section()), self.one_of(self.section(), self.section(), self.element(), self.element_near())
         children = self.document.nodes[into].children
         self.do(move=id, into=into, **({"before": self.one_of(*children)} if children and self.chance(0.7) else {}))
 
@@ -210,7 +211,7 @@ class Page(Words):
         self.do(runs=id, list=[[0, length, 1] + [self.random.randrange(50) for _ in range(4)]] if length else [])
 
     def edit(self):
-        kinds = [(self.word_wanders, 16), (self.reference_changes, 12), (self.section_turns, 8), (self.section_shows_again, 10),
+        kinds = [(self.word_wanders, 16), (self.reference_changes, 12), (self.section_turns, 8), (self.section_shows_again, 14),
                  (self.item_turns, 14), (self.text_changes, 12), (self.move, 8), (self.out_and_back, 6), (self.comes_or_goes, 14),
                  (self.focus, 3), (self.rects, 3)]
         self.random.choices([kind for kind, _ in kinds], [weight for _, weight in kinds])[0]()

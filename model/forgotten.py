@@ -122,8 +122,15 @@ class ForgetfulTold(flushes.Told):
         super().flush()
         reach, kept = self.page.reach(Shown(self.page.document)), self.kept.records
         self.kept = Tree(self.page.document)
-        for id in self.kept.records.keys() & kept.keys() - reach:
-            self.kept.records[id] = kept[id]._replace(parent=self.kept.records[id].parent)
+        records = self.kept.records
+        # What is not renewed stays as it is: an object with its old record, a node that was no object none.
+        for id in records.keys() - reach:
+            if id in kept:
+                records[id] = kept[id]._replace(parent=records[id].parent)
+            else:
+                del records[id]
+        for id in kept.keys() & self.page.document.nodes.keys() - records.keys() - reach:
+            records[id] = kept[id]
 
     def client(self, line, told):
         super().client(line, told)
