@@ -2,6 +2,7 @@
 #![tactic(auto)]
 
 mod answers;
+mod markers;
 mod searches;
 
 pub use answers::answer;

@@ -1,5 +1,6 @@
 -- Worked examples: two headings, of which one has a letter that folds to two, and a paragraph.
-use Rattle.std.specs.Prelude.{◌≡◌, ℕ, Bool, true, false, pos, codes, refl, List, [], ◌∷◌, Option, Some, None, encode_utf8_all, chars}
+use Rattle.std.specs.Prelude.{◌≡◌, ℕ, Bool, true, false, pos, codes, refl, List, [], ◌∷◌, Option, Some, None, encode_utf8_all}
+use Rattle.std.specs.Str.{chars}
 use Rattle.std.specs.Fmt.{take_chars}
 use lib.Utf8.{encode}
 use Rattle.caseless.proofs.Computing.{caseless}
