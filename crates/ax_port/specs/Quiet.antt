@@ -1,5 +1,5 @@
 -- Stories whose page only flushes, for tests: nothing changes from one moment to the next.
-use Rattle.std.specs.Prelude.{◌≡◌, ℕ, zero, suc, ◌<◌, List, [], ◌∷◌, false, None}
+use Rattle.std.specs.Prelude.{◌≡◌, ℕ, zero, suc, List, [], ◌∷◌, false, None}
 use Rattle.ax_batch.specs.declared.batch.Batch.{Batch}
 use Rattle.change_log.specs.declared.log.LogEntry.{LogEntry}
 use Rattle.story_check.specs.declared.story.PageLine.{PageLine}
@@ -25,9 +25,9 @@ no_change = record { added = []; changed = []; removed = []; focus = None }
 abbrev pub no_news : LogEntry
 no_news = record { batch = no_change; notices = [] }
 
--- the page's port of a quiet story may publish
-pub record MayPublish (ports : PortsState) (n : ℕ) (p : PageState) : Type 0 where
+-- the page's port of a quiet story has published so many moments, and is not closed
+pub record IsAt (ports : PortsState) (n published : ℕ) (p : PageState) : Type 0 where
   pub own : p.table ≡ ports.table
   pub quiet : IsQuiet p.story n
   pub going : p.page.over ≡ false
-  pub left : p.page.published < n
+  pub so_far : p.page.published ≡ published

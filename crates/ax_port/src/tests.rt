@@ -1,9 +1,8 @@
 //! The ports on one thread and on two. That a thread is served, or how soon, is proved by nothing.
-ghost use Rattle.std.specs.Prelude.{◌≡◌, ◌+◌, ◌<◌, false, IfOk, MatchResult};
-ghost use Rattle.ax_port.specs.States.{with_page, published_more};
-ghost use Rattle.ax_port.specs.Quiet.{IsQuiet, MayPublish};
+ghost use Rattle.std.specs.Prelude.{◌≡◌, ◌+◌, ◌<◌, false, IfOk, OnOk};
+ghost use Rattle.ax_port.specs.Quiet.{IsQuiet, IsAt};
 
-use crate::{ClientPort, PagePort, Ports, Taken, open_ports};
+use crate::{Bell, ClientPort, PagePort, Ports, Taken, open_ports};
 use ax_base::{Ids, Moment, NoMemory, Notices};
 use ax_batch::{Batch, Changes, Records};
 use std::alloc::Global;
@@ -16,6 +15,7 @@ use story_check::{PageLine, Story};
 const MOMENTS: u32 = 10_000;
 
 /// A story whose page flushes so often, and does nothing else.
+#[tactic(auto, using(crate::proofs::QuietLaws::one_more))]
 fn quiet_story(alloc: Global, count: u32) -> Result<Story, Fail>
     ensures { IfOk result (λ s. IsQuiet s count) }
 {
@@ -30,16 +30,31 @@ fn quiet_story(alloc: Global, count: u32) -> Result<Story, Fail>
     }
 }
 
+/// The lock and the ports of a story whose page flushes so often.
+#[tactic(auto, using(crate::proofs::QuietLaws::begins))]
+fn opened(alloc: Global, count: u32) -> Result<(Ports, PagePort, ClientPort), Fail>
+    ensures page { IfOk result (λ r. IsAt r.0 count 0 r.1) }
+    ensures client { IfOk result (λ r. (r.2.table ≡ r.0.table) × (r.2.client.over ≡ false)) }
+{
+    let story = quiet_story(alloc, count)?;
+    let (ports, page, client) = open_ports(alloc, &story)?;
+    Ok((ports, page, client))
+}
+
 /// Publishes a moment in which nothing changed, of a story of so many.
+#[tactic(auto, using(crate::proofs::QuietLaws::goes_on))]
 fn publish<R: Wait>(
     rt: &R,
     alloc: Global,
     ports: &Ports,
     port: &mut PagePort,
     count: u32,
-) -> Result<Moment, NoMemory>
-    requires { MayPublish ports.now count port.old }
-    ensures { MatchResult result (λ n. (n ≡ port.old.page.published + 1) × (port.new ≡ with_page port.old (published_more port.old.page))) (λ _. port.new ≡ port.old) }
+    so_far: u32,
+) -> Result<(), NoMemory>
+    requires at { IsAt ports.now count so_far port.old }
+    requires left { so_far < count }
+    ensures ok { OnOk result (IsAt ports.now count (so_far + 1) port.new) }
+    ensures own { port.new.table ≡ ports.now.table }
 {
     let batch = Batch {
         added: Records::new(alloc),
@@ -47,7 +62,22 @@ fn publish<R: Wait>(
         removed: Ids::new(alloc),
         focus: None,
     };
-    port.publish(rt, ports, batch, Notices::new(alloc))
+    match port.publish(rt, ports, batch, Notices::new(alloc)) {
+        Ok(_) => Ok(()),
+        Err(error) => Err(error),
+    }
+}
+
+/// Looks, and then takes all that is published.
+fn look_and_take<R: Wait>(rt: &R, ports: &Ports, port: &mut ClientPort) -> (Bell, Taken)
+    requires own { port.old.table ≡ ports.now.table }
+    requires going { port.old.client.over ≡ false }
+    ensures own { port.new.table ≡ ports.now.table }
+    ensures going { port.new.client.over ≡ false }
+{
+    let bell = port.hear(ports);
+    let taken = port.take(rt, ports);
+    (bell, taken)
 }
 
 /// Whether a take went on from there, and its log has a moment for each number.
@@ -60,14 +90,12 @@ fn goes_on(taken: Taken, last: u32) -> bool {
 #[test]
 fn one_thread_publishes_and_takes(rt: HostRuntime) -> Result<(), Fail> {
     let alloc = rt.alloc();
-    let story = quiet_story(alloc, 4)?;
-    let (ports, mut page, mut client) = open_ports(alloc, &story)?;
-    publish(&rt, alloc, &ports, &mut page, 4)?;
-    publish(&rt, alloc, &ports, &mut page, 4)?;
-    publish(&rt, alloc, &ports, &mut page, 4)?;
-    let bell = client.hear(&ports);
-    let taken = client.take(&rt, &ports);
-    publish(&rt, alloc, &ports, &mut page, 4)?;
+    let (ports, mut page, mut client) = opened(alloc, 4)?;
+    publish(&rt, alloc, &ports, &mut page, 4, 0)?;
+    publish(&rt, alloc, &ports, &mut page, 4, 1)?;
+    publish(&rt, alloc, &ports, &mut page, 4, 2)?;
+    let (bell, taken) = look_and_take(&rt, &ports, &mut client);
+    publish(&rt, alloc, &ports, &mut page, 4, 3)?;
     page.close(&ports);
     client.close(&ports);
     let last = ports.finish(page, client);
@@ -79,14 +107,12 @@ fn one_thread_publishes_and_takes(rt: HostRuntime) -> Result<(), Fail> {
 
 /// Publishes all moments, and closes the port. It stops where there is no memory.
 fn publish_all<R: Wait>(rt: &R, alloc: Global, ports: &Ports, port: PagePort) -> PagePort
-    requires ready { MayPublish ports.now MOMENTS port }
-    requires start { port.page.published ≡ 0 }
+    requires { IsAt ports.now MOMENTS 0 port }
     ensures { result.table ≡ ports.now.table }
 {
     let mut port = port;
     for done in 0..MOMENTS {
-        let _done = done;
-        if publish(rt, alloc, ports, &mut port, MOMENTS).is_err() {
+        if publish(rt, alloc, ports, &mut port, MOMENTS, done).is_err() {
             port.close(ports);
             return port;
         }
@@ -105,8 +131,7 @@ fn take_all<R: Wait>(rt: &R, ports: &Ports, port: ClientPort) -> (ClientPort, bo
     let mut last = 0;
     let mut in_order = true;
     for _ in rt.forever() {
-        let bell = port.hear(ports);
-        let taken = port.take(rt, ports);
+        let (bell, taken) = look_and_take(rt, ports, &mut port);
         let to = taken.to.number();
         let went_on = goes_on(taken, last);
         in_order = in_order && went_on;
@@ -123,13 +148,12 @@ fn take_all<R: Wait>(rt: &R, ports: &Ports, port: ClientPort) -> (ClientPort, bo
 #[test]
 fn two_threads_hand_moments_over(rt: HostRuntime) -> Result<(), Fail> {
     let alloc = rt.alloc();
-    let story = quiet_story(alloc, MOMENTS)?;
-    let (ports, page, client) = open_ports(alloc, &story)?;
+    let (ports, page, client) = opened(alloc, MOMENTS)?;
     let shared = &ports;
     let (page, (client, in_order)) = thread::join(
         &rt,
         || -> PagePort
-            requires { MayPublish shared.now MOMENTS page × (page.page.published ≡ 0) }
+            requires { IsAt shared.now MOMENTS 0 page }
             ensures { result.table ≡ shared.entry.now.table }
         { publish_all(&rt, alloc, shared, page) },
         || -> (ClientPort, bool)
