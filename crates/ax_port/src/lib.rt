@@ -5,6 +5,8 @@ mod client;
 mod content;
 mod page;
 mod ports;
+#[cfg(test)]
+mod tests;
 
 pub use client::{Bell, ClientPort, Taken};
 pub use content::Spans;
