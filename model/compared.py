@@ -2,8 +2,6 @@
 import subprocess
 import sys
 
-from plays import NOT_BUILT
-
 CASES = []
 
 
@@ -22,11 +20,6 @@ def refused(title, story, line, cause):
     """A refused story, by both commands."""
     case(title, "dump", story, (line, cause))
     case(title, "replay", story, (line, cause))
-
-
-def replied(title, story, word, text):
-    """A story with one request, of this word, by `replay`: what must be written, or the refusal of what is not built yet."""
-    case(title, "replay", story, (0, "NotBuilt") if word in NOT_BUILT else text)
 
 
 def compare(what, words, usage):

@@ -8,7 +8,7 @@ ends with status 1 if one is answered otherwise.
 """
 import sys
 
-from compared import case, compare, refused, replied
+from compared import case, compare, refused
 
 START = '{"start":1}'
 GREATEST = 2147483647
@@ -101,8 +101,8 @@ def alone(title, story):
 
 def asked(title, request, reply):
     """A request that is read, with its reply, or is no line."""
-    lines, word = [START, '{"again":%s}' % request], request.split('"')[3]
-    replied(title, lines, word, "#1 @0 %s\nend 0\n" % reply) if reply else refused(title, lines, 2, "BadLine")
+    lines = [START, '{"again":%s}' % request]
+    case(title, "replay", lines, "#1 @0 %s\nend 0\n" % reply) if reply else refused(title, lines, 2, "BadLine")
 
 
 asked("a marker at 0", '{"q":"next_char","at":[1,0]}', "out")
@@ -264,8 +264,8 @@ def marked(title, chars, **replies):
     """Requests about a text of 65,536 characters, and a text behind it."""
     for request, reply in replies.items():
         word, offset = request.rsplit("_", 1)
-        replied("%s: %s at %s" % (title, word, offset), [text(2, 1, chars), text(3, 1, "z"), START, '{"ask":{"q":"%s","at":[2,%s]}}' % (word, offset)],
-                word, "#1 @0 %s\nend 0\n" % reply)
+        case("%s: %s at %s" % (title, word, offset), "replay", [text(2, 1, chars), text(3, 1, "z"), START, '{"ask":{"q":"%s","at":[2,%s]}}' % (word, offset)],
+             "#1 @0 %s\nend 0\n" % reply)
 
 
 marked("words of 65,536 characters", "ab " * 21845 + "e", next_char_0="marker 2 1", next_char_65535="marker 2 65536",

@@ -8,7 +8,7 @@ it. Limits of numbers and lengths are in limits.py. It ends with status 1 if one
 """
 import sys
 
-from compared import case, compare, refused, replied
+from compared import case, compare, refused
 
 START = '{"start":1}'
 ROOT = '1 0 document ""\n'
@@ -61,13 +61,13 @@ SEARCHES = [
 
 # Requests that are read, with their word and their reply in a document that has the root alone.
 REQUESTS = [
-    ('{"q":"compare","b":[2147483647,4294967295],"a":[1,0]}', "compare", "stale"), ('{"q":"text","a":[2,3],"b":[4,5]}', "text", "stale"),
-    ('{"at":[2,3],"q":"prev_char"}', "prev_char", "stale"), ('{"q":"next_word","at":[1,3]}', "next_word", "out"),
-    ('{"q":"line","at":[2,3]}', "line", "stale"), ('{"q":"hit","x":-1,"y":1}', "hit", "none"),
-    ('{"q":"search","q":"hit","x":0,"y":0}', "hit", "none"),
+    ('{"q":"compare","b":[2147483647,4294967295],"a":[1,0]}', "stale"), ('{"q":"text","a":[2,3],"b":[4,5]}', "stale"),
+    ('{"at":[2,3],"q":"prev_char"}', "stale"), ('{"q":"next_word","at":[1,3]}', "out"),
+    ('{"q":"line","at":[2,3]}', "stale"), ('{"q":"hit","x":-1,"y":1}', "none"),
+    ('{"q":"search","q":"hit","x":0,"y":0}', "none"),
     ('{"q":"search","from":1,"dir":"prev","keys":["text","heading","link","button","checkbox","radio","list","field"],"text":"","limit":2}',
-     "search", "none"),
-    ('{"q":"search","limit":1,"keys":["control","landmark","table","image","live","focusable","any"],"dir":"next","from":0}', "search", "found 1"),
+     "none"),
+    ('{"q":"search","limit":1,"keys":["control","landmark","table","image","live","focusable","any"],"dir":"next","from":0}', "found 1"),
 ]
 
 
@@ -81,9 +81,9 @@ for line in NO_JSON:
 for line in NO_LINES + ['{"ask":{"q":"search",%s}}' % it for it in SEARCHES]:
     refused(line, [line, START], 1, "BadLine")
     refused(line, [START, line], 2, "BadLine")
-for request, asked, reply in REQUESTS:
+for request, reply in REQUESTS:
     for word in "ask", "again":
-        replied(request, [START, '{"%s":%s}' % (word, request)], asked, "#1 @0 %s\nend 0\n" % reply)
+        case(request, "replay", [START, '{"%s":%s}' % (word, request)], "#1 @0 %s\nend 0\n" % reply)
 
 SHOWN = ROOT + '2 1 paragraph ""\n%send 0\n'
 case("white space in a line", "dump", [PARAGRAPH, ' {"start" : 1}\r'], SHOWN % "")

@@ -3,8 +3,9 @@ import json
 import random
 
 from documents import Document
+from forms import REQUESTS
 from nodes import BLOCKS, CHECKED, COUNTED, LIVE_ROLES, NAMED_FROM_CONTENT, NAMELESS, RANGES, ROLES, SELECTED
-from plays import ABOUT_AN_OBJECT, BUILT_REQUESTS, Refused, Story
+from plays import ABOUT_AN_OBJECT, Refused, Story
 from searches import KEYS
 from trees import Tree
 
@@ -317,7 +318,7 @@ class Maker:
         self.random = random.Random(seed)
 
     def request(self, editor):
-        word = editor.one_of(*BUILT_REQUESTS)
+        word = editor.one_of(*REQUESTS)
         if editor.chance(0.002):
             word = "hit"
         return editor.request(word)
@@ -342,7 +343,7 @@ class Maker:
         asked = [{"q": word, "id": id} for id in tree.records for word in ABOUT_AN_OBJECT]
         telling = [request for request in asked if request["q"] not in ("role", "name", "parent") and tree.answer(request) not in empty]
         asked = editor.random.sample(telling, min(len(telling), 60)) + editor.random.sample(asked, min(len(asked), 20))
-        asked += [editor.request(word) for word in BUILT_REQUESTS if word not in ABOUT_AN_OBJECT for _ in range(3)]
+        asked += [editor.request(word) for word in REQUESTS if word not in ABOUT_AN_OBJECT for _ in range(3)]
         return [{"flush": True}, {"await": flushes + 1}] + [{"again": request} for request in asked] + [{"notices": True}]
 
     def story(self):
@@ -419,11 +420,9 @@ class ThreadedMaker(Maker):
         while True:
             lines = self.threaded_story(length)
             try:
-                story = Story(lines)
+                return lines, Story(lines)
             except Refused:
                 continue
-            if story.asks_what_is_built():
-                return lines, story
 
     def turns(self, story):
         """Turns for about all lines of a story, mostly some of one side after another."""

@@ -5,23 +5,12 @@ Written from docs/STORY_FORMAT.md alone, sections 4 to 6.
 import os
 
 from documents import Document
-from forms import REQUESTS, NoForm, NoJson, read_line
+from forms import NoForm, NoJson, read_line
 from notices import notices
 from trees import Tree
 
 LONGEST_STORY, MOST_FLUSHES, MOST_ASKS, MOST_TURNS = 1 << 24, 65536, 16384, 1 << 20
 ABOUT_AN_OBJECT = ("role", "name", "description", "value", "states", "level", "live", "frame", "parent", "children")
-
-
-def not_built():
-    """The words of the requests that the program does not build yet, one a line in cases/not-built."""
-    path = os.path.join(os.path.dirname(os.path.abspath(__file__)), "..", "cases", "not-built")
-    with open(path, encoding="utf-8") as file:
-        return file.read().split()
-
-
-NOT_BUILT = not_built()
-BUILT_REQUESTS = tuple(word for word in REQUESTS if word not in NOT_BUILT)
 
 
 class Refused(Exception):
@@ -113,10 +102,6 @@ class Story:
             taken = max(taken, moment)
         return any(line.get("until", 0) > taken for line in self.page)
 
-    def asks_what_is_built(self):
-        asked = [line.get("ask") or line.get("again") for line in self.client]
-        return not any(request and request["q"] in NOT_BUILT for request in asked)
-
     def trees(self, moments):
         """The trees of these moments, by their numbers."""
         document, published, trees = Document(), 0, {}
@@ -188,8 +173,6 @@ def answered(lines, command):
     """What the command writes of these lines, and its status."""
     try:
         story = Story(lines)
-        if not story.asks_what_is_built():
-            raise Refused(0, "NotBuilt")
     except Refused as refusal:
         return str(refusal), 2
     return told(story, command), 0

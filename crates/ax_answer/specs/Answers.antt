@@ -2,22 +2,23 @@
 use Rattle.std.specs.Prelude.{ℕ, Bool, true, false, if◌then◌else◌, List, [], ◌∷◌, length, take, drop, Option, Some, None, Result, Ok, Err}
 use Rattle.std.specs.Option.{option_map_or}
 use Rattle.ax_base.specs.Document.{root}
+use Rattle.ax_base.specs.declared.rect.Rect.{Rect}
+use Rattle.ax_ask.specs.declared.requests.Marker.{Marker}
 use Rattle.ax_ask.specs.declared.requests.Request.{Request}
 use Rattle.ax_ask.specs.declared.requests.Request.TheVariants.{Root, Focus, Role, Name, Description, Value, States, Level, Live, Frame, Parent, Children, Compare, NextChar, PrevChar, NextWord, LineAt, TextOf, BoundsOf, Search, Hit}
 use Rattle.ax_ask.specs.declared.requests.SearchRequest.{SearchRequest}
-use Rattle.ax_ask.specs.declared.requests.Marker.{Marker}
-use Rattle.ax_ask.specs.declared.replies.Placing.{Placing}
 use Rattle.ax_ask.specs.declared.replies.Reply.{Reply}
-use Rattle.ax_ask.specs.declared.replies.Reply.TheVariants.{Stale, Out, Long, Nothing, Order, Mark, Span, Root as TheRoot, Focus as TheFocus, Role as TheRole, Name as TheName, Description as TheDescription, Value as TheValue, States as TheStates, Level as TheLevel, Live as TheLive, Frame as TheFrame, Parent as TheParent, Children as TheChildren, Found, Hit as TheHit}
+use Rattle.ax_ask.specs.declared.replies.Reply.TheVariants.{Stale, Nothing, Root as TheRoot, Focus as TheFocus, Role as TheRole, Name as TheName, Description as TheDescription, Value as TheValue, States as TheStates, Level as TheLevel, Live as TheLive, Frame as TheFrame, Parent as TheParent, Children as TheChildren, Out, Long, Order, Mark, Span, Words as WordsReply, Bounds, Found, Hit as TheHit}
 use Rattle.ax_record.specs.declared.record.Record.{Record}
 use Rattle.ax_record.specs.Tree.{Tree, record_at, has_object}
 use Rattle.ax_search.specs.Searches.{found}
 use Rattle.hit_test.specs.Hits.{hit}
 use Rattle.text_marker.specs.declared.errors.MarkError.{MarkError}
-use Rattle.text_marker.specs.declared.errors.MarkError.TheVariants.{Stale as IsStale, Out as IsOut, Long as IsLong, NoMemory as IsNoMemory}
+use Rattle.text_marker.specs.declared.errors.MarkError.TheVariants.{Stale as IsStale, Out as IsOut, Long as IsLong, NoMemory as OutOfMemory}
+use Rattle.text_marker.specs.Answers.{answered, answered_both, range_text}
 use Rattle.text_marker.specs.Markers.{placing, next_char, prev_char, next_word}
 use Rattle.text_marker.specs.Lines.{line_range}
-use Rattle.text_marker.specs.Answers.{answered, answered_both}
+use Rattle.text_marker.specs.Ranges.{range_bounds}
 
 -- the object that a request is about
 abbrev pub asked_object : Request → Option ℕ
@@ -47,7 +48,7 @@ asked_object (Hit x y) = None
 abbrev pub children_from : ℕ → List ℕ → List ℕ
 children_from from kids = take 256 (drop from kids)
 
--- what the record of an object answers to a request about it; of its children, how many there are in all, and some of them
+-- what the record of an object answers to a request about it
 abbrev pub answer_of : Record → Request → Reply
 answer_of r Root = Nothing
 answer_of r Focus = Nothing
@@ -71,6 +72,27 @@ answer_of r (BoundsOf from to) = Nothing
 answer_of r (Search q) = Nothing
 answer_of r (Hit x y) = Nothing
 
+-- what is told where markers have no answer; want of memory is none that a definition gives
+abbrev pub refusal_reply : MarkError → Reply
+refusal_reply IsStale = Stale
+refusal_reply IsOut = Out
+refusal_reply IsLong = Long
+refusal_reply OutOfMemory = Nothing
+
+-- what is told of an answer about markers, or of their refusal
+abbrev pub told : {A : Type 0} → (A → Reply) → Result A MarkError → Reply
+told tell (Ok value) = tell value
+told tell (Err e) = refusal_reply e
+
+abbrev pub mark_reply : Option Marker → Reply
+mark_reply at = option_map_or Mark at Nothing
+
+abbrev pub span_reply : Option (Marker × Marker) → Reply
+span_reply ends = option_map_or (λ (e : Marker × Marker). Span e.0 e.1) ends Nothing
+
+abbrev pub bounds_reply : Option Rect → Reply
+bounds_reply bounds = option_map_or Bounds bounds Nothing
+
 -- whether a search goes on from an object of the tree, or from none
 abbrev pub has_origin : Tree → Option ℕ → Bool
 has_origin t origin = option_map_or (has_object t) origin true
@@ -83,30 +105,6 @@ told_ids (n ∷ ns) = Found (n ∷ ns)
 -- what a tree answers to a search: it is stale exactly where the tree lacks its origin
 abbrev pub answer_search : Tree → SearchRequest → Reply
 answer_search t r = if has_origin t r.origin then told_ids (found t r) else Stale
-
--- what is told where a call on markers has no answer; no definition answers want of memory
-abbrev pub told_refusal : MarkError → Reply
-told_refusal IsStale = Stale
-told_refusal IsOut = Out
-told_refusal IsLong = Long
-told_refusal IsNoMemory = Nothing
-
--- what is told of the order of two markers
-abbrev pub told_order : Result Placing MarkError → Reply
-told_order (Ok place) = Order place
-told_order (Err why) = told_refusal why
-
--- what is told of where a marker moves to: there may be no such place
-abbrev pub told_mark : Result (Option Marker) MarkError → Reply
-told_mark (Ok (Some m)) = Mark m
-told_mark (Ok None) = Nothing
-told_mark (Err why) = told_refusal why
-
--- what is told of a line: there may be none
-abbrev pub told_span : Result (Option (Marker × Marker)) MarkError → Reply
-told_span (Ok (Some (start, end))) = Span start end
-told_span (Ok None) = Nothing
-told_span (Err why) = told_refusal why
 
 -- what a tree answers to a request that is about no object of its own
 abbrev pub answer_whole : Tree → Request → Reply
@@ -122,13 +120,13 @@ answer_whole t (Live id) = Nothing
 answer_whole t (Frame id) = Nothing
 answer_whole t (Parent id) = Nothing
 answer_whole t (Children id from) = Nothing
-answer_whole t (Compare a b) = told_order (answered_both t a b (Ok (placing t a b)))
-answer_whole t (NextChar at) = told_mark (answered t at (next_char t at))
-answer_whole t (PrevChar at) = told_mark (answered t at (prev_char t at))
-answer_whole t (NextWord at) = told_mark (answered t at (next_word t at))
-answer_whole t (LineAt at) = told_span (answered t at (line_range t at))
-answer_whole t (TextOf from to) = Nothing
-answer_whole t (BoundsOf from to) = Nothing
+answer_whole t (Compare a b) = told Order (answered_both t a b (Ok (placing t a b)))
+answer_whole t (NextChar at) = told mark_reply (answered t at (next_char t at))
+answer_whole t (PrevChar at) = told mark_reply (answered t at (prev_char t at))
+answer_whole t (NextWord at) = told mark_reply (answered t at (next_word t at))
+answer_whole t (LineAt at) = told span_reply (answered t at (line_range t at))
+answer_whole t (TextOf a b) = told WordsReply (range_text t a b)
+answer_whole t (BoundsOf a b) = told bounds_reply (answered_both t a b (Ok (range_bounds t a b)))
 answer_whole t (Search r) = answer_search t r
 answer_whole t (Hit x y) = option_map_or TheHit (hit t x y) Nothing
 

@@ -2,19 +2,20 @@
 ghost use Rattle.std.specs.Prelude.{◌≡◌, ◌≤◌, length, IfOk};
 ghost use Rattle.ax_answer.specs.Answers.{asked_object, answer_of, answer_whole, answer, children_from};
 
-use crate::markers::{told_mark, told_order, told_span};
+use crate::markers::{told_bounds, told_mark, told_order, told_span, told_words};
 use crate::searches::answer_search;
 use ax_ask::{Reply, Request};
 use ax_base::{Ids, NoMemory, ObjId};
 use ax_record::{Record, TreeView};
 use hit_test::hit;
 use std::alloc::Global;
-use text_marker::{compare, line_range, next_char, next_word, prev_char};
+use text_marker::{
+    compare, line_range, next_char, next_word, prev_char, range_bounds, range_text,
+};
 
-/// What a tree answers to a request about its root, its focus, an object or markers, to a search or to a point. It answers
-/// `Stale` exactly where the tree lacks an object that is asked about, or from which a search goes on, and else `Out` exactly
-/// where a marker stands in no text or past its end. The only error is want of
-/// memory for a copy of a text or of ids, or for a search.
+/// What a tree answers to a request. It answers `Stale` exactly where the tree lacks an object or the object of a marker that
+/// the request names, and else `Out` exactly where a marker stands in no text or past its end. The only error is want of
+/// memory for a text, for ids or for a search.
 #[tactic(auto, using(ax_record::proofs::FewKids::few_of))]
 pub fn answer<T: TreeView>(alloc: Global, t: &T, q: &Request) -> Result<Reply, NoMemory>
     ensures { IfOk result (λ r. r ≡ answer (T.tree t.now) q.now) }
@@ -76,14 +77,14 @@ fn answer_whole<T: TreeView>(alloc: Global, t: &T, q: &Request) -> Result<Reply,
         | Request::Live(_)
         | Request::Frame(_)
         | Request::Parent(_)
-        | Request::Children(_, _)
-        | Request::TextOf(_, _)
-        | Request::BoundsOf(_, _) => Reply::Nothing,
-        Request::Compare(a, b) => told_order(compare(t, *a, *b)),
-        Request::NextChar(at) => told_mark(next_char(t, *at)),
-        Request::PrevChar(at) => told_mark(prev_char(t, *at)),
-        Request::NextWord(at) => told_mark(next_word(t, *at)),
-        Request::LineAt(at) => told_span(line_range(t, *at)),
+        | Request::Children(_, _) => Reply::Nothing,
+        Request::Compare(a, b) => told_order(compare(t, *a, *b))?,
+        Request::NextChar(at) => told_mark(next_char(t, *at))?,
+        Request::PrevChar(at) => told_mark(prev_char(t, *at))?,
+        Request::NextWord(at) => told_mark(next_word(t, *at))?,
+        Request::LineAt(at) => told_span(line_range(t, *at))?,
+        Request::TextOf(a, b) => told_words(range_text(alloc, t, *a, *b))?,
+        Request::BoundsOf(a, b) => told_bounds(range_bounds(t, *a, *b))?,
         Request::Search(search) => answer_search(alloc, t, search)?,
         Request::Hit(x, y) => match hit(t, *x, *y) {
             Some(id) => Reply::Hit(id),

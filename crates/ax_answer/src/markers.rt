@@ -1,50 +1,82 @@
-//! What is told of what the calls on markers answer.
-ghost use Rattle.std.specs.Prelude.{◌≡◌};
-ghost use Rattle.ax_answer.specs.Answers.{told_refusal, told_order, told_mark, told_span};
+//! The answers to requests about text markers: what is told of them, and of why there is none.
+ghost use Rattle.std.specs.Prelude.{◌≡◌, IfOk, Result};
+ghost use Rattle.ax_base.specs.declared.rect.Rect.{Rect};
+ghost use Rattle.ax_base.specs.Characters.{Chars};
+ghost use Rattle.ax_ask.specs.declared.replies.Reply.TheVariants.{Order, Words};
+ghost use Rattle.text_marker.specs.declared.errors.MarkError.{MarkError};
+ghost use Rattle.text_marker.specs.Answers.{Gave};
+ghost use Rattle.ax_answer.specs.Answers.{told, refusal_reply, mark_reply, span_reply, bounds_reply};
 
 use ax_ask::{Marker, Placing, Reply};
+use ax_base::{NoMemory, Rect, Text};
 use text_marker::MarkError;
 
 /// What is told of the order of two markers.
-pub(crate) fn told_order(answer: Result<Placing, MarkError>) -> Reply
-    ensures { result ≡ told_order answer }
+pub(crate) fn told_order(answer: Result<Placing, MarkError>) -> Result<Reply, NoMemory>
+    ensures { IfOk result (λ r. r ≡ told Order answer) }
 {
     match answer {
-        Ok(place) => Reply::Order(place),
-        Err(why) => told_refusal(why),
+        Ok(placing) => Ok(Reply::Order(placing)),
+        Err(fail) => told_refusal(fail),
     }
 }
 
-/// What is told of where a marker moves to.
-pub(crate) fn told_mark(answer: Result<Option<Marker>, MarkError>) -> Reply
-    ensures { result ≡ told_mark answer }
+/// What is told of a step from a marker.
+pub(crate) fn told_mark(answer: Result<Option<Marker>, MarkError>) -> Result<Reply, NoMemory>
+    ensures { IfOk result (λ r. r ≡ told mark_reply answer) }
 {
     match answer {
-        Ok(Some(marker)) => Reply::Mark(marker),
-        Ok(None) => Reply::Nothing,
-        Err(why) => told_refusal(why),
+        Ok(Some(at)) => Ok(Reply::Mark(at)),
+        Ok(None) => Ok(Reply::Nothing),
+        Err(fail) => told_refusal(fail),
     }
 }
 
-/// What is told of a line.
-pub(crate) fn told_span(answer: Result<Option<(Marker, Marker)>, MarkError>) -> Reply
-    ensures { result ≡ told_span answer }
+/// What is told of the line of a marker.
+pub(crate) fn told_span(
+    answer: Result<Option<(Marker, Marker)>, MarkError>,
+) -> Result<Reply, NoMemory>
+    ensures { IfOk result (λ r. r ≡ told span_reply answer) }
 {
     match answer {
-        Ok(Some((start, end))) => Reply::Span(start, end),
-        Ok(None) => Reply::Nothing,
-        Err(why) => told_refusal(why),
+        Ok(Some((start, end))) => Ok(Reply::Span(start, end)),
+        Ok(None) => Ok(Reply::Nothing),
+        Err(fail) => told_refusal(fail),
     }
 }
 
-/// What is told where a call on markers has no answer. Want of memory is told to the caller before it comes here.
-fn told_refusal(why: MarkError) -> Reply
-    ensures { result ≡ told_refusal why }
+/// What is told of the bounds of a range.
+pub(crate) fn told_bounds(answer: Result<Option<Rect>, MarkError>) -> Result<Reply, NoMemory>
+    ensures { IfOk result (λ r. r ≡ told bounds_reply answer) }
 {
-    match why {
-        MarkError::Stale => Reply::Stale,
-        MarkError::Out => Reply::Out,
-        MarkError::Long => Reply::Long,
-        MarkError::NoMemory => Reply::Nothing,
+    match answer {
+        Ok(Some(bounds)) => Ok(Reply::Bounds(bounds)),
+        Ok(None) => Ok(Reply::Nothing),
+        Err(fail) => told_refusal(fail),
+    }
+}
+
+/// What is told of the text of a range, which want of memory may keep back.
+pub(crate) fn told_words(answer: Result<Text, MarkError>) -> Result<Reply, NoMemory>
+    ensures { IfOk result (λ r. (wanted : Result Chars MarkError) → Gave wanted answer → r ≡ told Words wanted) }
+{
+    match answer {
+        Ok(words) => Ok(Reply::Words(words)),
+        Err(MarkError::Stale) => Ok(Reply::Stale),
+        Err(MarkError::Out) => Ok(Reply::Out),
+        Err(MarkError::Long) => Ok(Reply::Long),
+        Err(MarkError::NoMemory) => Err(NoMemory),
+    }
+}
+
+/// What is told where markers have no answer. Want of memory is an error, and no reply.
+fn told_refusal(fail: MarkError) -> Result<Reply, NoMemory>
+    ensures { IfOk result (λ r. r ≡ refusal_reply fail) }
+{
+    match fail {
+        MarkError::Stale => Ok(Reply::Stale),
+        MarkError::Out => Ok(Reply::Out),
+        MarkError::Long => Ok(Reply::Long),
+        MarkError::NoMemory => Err(NoMemory),
     }
 }

@@ -13,9 +13,9 @@ use Rattle.ax_session.specs.declared.words.Command.{Command}
 use Rattle.ax_session.specs.declared.words.Command.TheVariants.{Dump, Replay, Run, Gen}
 use Rattle.ax_session.specs.declared.words.Status.{Status}
 use Rattle.ax_session.specs.declared.words.Status.TheVariants.{Done, Refused, ReadFault, WriteFault, NoMemory, Words}
-use Rattle.ax_session.specs.declared.story.Refusal.{Refusal}
+use Rattle.story_check.specs.declared.refusals.Refusal.{Refusal}
 use Rattle.ax_session.specs.Command.{command_of}
-use Rattle.ax_session.specs.Story.{Accepted}
+use Rattle.story_check.specs.Acceptance.{Accepted}
 use Rattle.ax_session.specs.Texts.{document_text, replay_text, summary_text}
 use Rattle.ax_session.specs.TopCall.{Does, IsGood, Refuses, MayAnswer, Completes, IsComplete, TakesFor, HasInput, LeavesSource, LeavesSpawner}
 use Rattle.ax_session.proofs.Lines.{last_text}

@@ -1,4 +1,3 @@
-pub mod BuiltLaws
 pub mod Complete
 pub mod Lines
 pub mod Rows

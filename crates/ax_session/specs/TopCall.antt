@@ -11,10 +11,10 @@ use Rattle.ax_session.specs.declared.words.Command.{Command}
 use Rattle.ax_session.specs.declared.words.Command.TheVariants.{Dump, Replay, Run, Gen}
 use Rattle.ax_session.specs.declared.words.Status.{Status}
 use Rattle.ax_session.specs.declared.words.Status.TheVariants.{Done, Refused, ReadFault, WriteFault, NoMemory, Words}
-use Rattle.ax_session.specs.declared.story.Refusal.{Refusal}
+use Rattle.story_check.specs.declared.refusals.Refusal.{Refusal}
 use Rattle.ax_session.specs.Command.{command_of}
 use Rattle.ax_session.specs.Refusals.{refusal_text}
-use Rattle.ax_session.specs.Story.{Accepted, IsRefused}
+use Rattle.story_check.specs.Acceptance.{Accepted, IsRefused}
 use Rattle.ax_ask.specs.declared.transcripts.Transcript.{Transcript}
 use Rattle.ax_ask.specs.Transcripts.{transcript_text}
 use Rattle.ax_session.specs.Texts.{dump_text, replay_text, summary_text}

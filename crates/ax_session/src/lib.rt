@@ -1,12 +1,10 @@
 //! The commands of the accessibility core, from bytes to bytes, and its run on two threads.
 #![tactic(auto)]
 
-mod built;
 mod jobs;
 mod play_text;
 mod refusals;
 mod settling;
-mod story;
 mod summary;
 mod threads;
 mod top;
@@ -15,7 +13,6 @@ mod words;
 
 pub use ax_world::replay;
 pub use settling::settle;
-pub use story::{AcceptFail, Cause, Refusal};
 pub use threads::run_threads;
 pub use top::{axcore, still_command};
 pub use tree_text::dump;

@@ -1,6 +1,7 @@
 //! The text of a story that is played.
-ghost use Rattle.std.specs.Prelude.{◌≡◌, IfOk};
-ghost use Rattle.ax_session.specs.Story.{IsReady};
+ghost use Rattle.std.specs.Prelude.{◌≡◌, false, IfOk};
+ghost use Rattle.story_check.specs.Stories.{stuck};
+ghost use Rattle.story_check.specs.Moments.{IsAccepted};
 ghost use Rattle.ax_session.specs.Texts.{replay_text};
 
 use crate::replay;
@@ -13,7 +14,8 @@ use story_check::Story;
 /// of its flushes.
 #[tactic(auto, unfolding(crate::specs::Texts::replay_text))]
 pub fn replay_text(alloc: Global, story: &Story) -> Result<Text, NoMemory>
-    requires { IsReady story.now }
+    requires free { stuck story.now ≡ false }
+    requires accepted { IsAccepted story.now }
     ensures { IfOk result (λ text. text ≡ replay_text story.now) }
 {
     let transcript = replay(alloc, story)?;

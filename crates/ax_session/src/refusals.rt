@@ -1,11 +1,10 @@
 //! The line that is written for a refusal.
 ghost use Rattle.std.specs.Prelude.{◌≡◌, IfOk, string_bytes};
-ghost use Rattle.ax_session.specs.Refusals.{cause_word, story_word, refusal_text};
+ghost use Rattle.ax_session.specs.Refusals.{cause_word, refusal_text};
 
-use crate::{Cause, Refusal};
 use ax_base::{NoMemory, Text};
 use std::alloc::{AllocError, Global};
-use story_check::Cause as StoryCause;
+use story_check::{Cause, Refusal};
 
 /// The line `refused LINE CAUSE`.
 pub fn refusal_line(alloc: Global, refusal: Refusal) -> Result<Text, NoMemory>
@@ -27,36 +26,27 @@ fn cause_word(cause: Cause) -> &'static str
     ensures { result.now ≡ cause_word cause }
 {
     match cause {
-        Cause::NotBuilt => "NotBuilt",
-        Cause::Story(cause) => story_word(cause),
-    }
-}
-
-fn story_word(cause: StoryCause) -> &'static str
-    ensures { result.now ≡ story_word cause }
-{
-    match cause {
-        StoryCause::StoryTooLong => "StoryTooLong",
-        StoryCause::NotUtf8 => "NotUtf8",
-        StoryCause::BadJson => "BadJson",
-        StoryCause::BadLine => "BadLine",
-        StoryCause::NoStart => "NoStart",
-        StoryCause::SecondStart => "SecondStart",
-        StoryCause::TooManyFlushes => "TooManyFlushes",
-        StoryCause::TooManyAsks => "TooManyAsks",
-        StoryCause::BadTurns => "BadTurns",
-        StoryCause::AwaitTooFar => "AwaitTooFar",
-        StoryCause::Stuck => "Stuck",
-        StoryCause::NoNode => "NoNode",
-        StoryCause::UsedId => "UsedId",
-        StoryCause::BadPlace => "BadPlace",
-        StoryCause::NotElement => "NotElement",
-        StoryCause::NotText => "NotText",
-        StoryCause::IntoItself => "IntoItself",
-        StoryCause::RootFixed => "RootFixed",
-        StoryCause::TooDeep => "TooDeep",
-        StoryCause::TooMany => "TooMany",
-        StoryCause::BadRuns => "BadRuns",
-        StoryCause::TooLong => "TooLong",
+        Cause::StoryTooLong => "StoryTooLong",
+        Cause::NotUtf8 => "NotUtf8",
+        Cause::BadJson => "BadJson",
+        Cause::BadLine => "BadLine",
+        Cause::NoStart => "NoStart",
+        Cause::SecondStart => "SecondStart",
+        Cause::TooManyFlushes => "TooManyFlushes",
+        Cause::TooManyAsks => "TooManyAsks",
+        Cause::BadTurns => "BadTurns",
+        Cause::AwaitTooFar => "AwaitTooFar",
+        Cause::Stuck => "Stuck",
+        Cause::NoNode => "NoNode",
+        Cause::UsedId => "UsedId",
+        Cause::BadPlace => "BadPlace",
+        Cause::NotElement => "NotElement",
+        Cause::NotText => "NotText",
+        Cause::IntoItself => "IntoItself",
+        Cause::RootFixed => "RootFixed",
+        Cause::TooDeep => "TooDeep",
+        Cause::TooMany => "TooMany",
+        Cause::BadRuns => "BadRuns",
+        Cause::TooLong => "TooLong",
     }
 }

@@ -1,6 +1,7 @@
 //! How much a generated story comes to.
-ghost use Rattle.std.specs.Prelude.{◌≡◌, ◌++◌, IfOk, OnOk, string_bytes};
-ghost use Rattle.ax_session.specs.Story.{IsReady};
+ghost use Rattle.std.specs.Prelude.{◌≡◌, ◌++◌, false, IfOk, OnOk, string_bytes};
+ghost use Rattle.story_check.specs.Stories.{stuck};
+ghost use Rattle.story_check.specs.Moments.{IsAccepted};
 ghost use Rattle.ax_session.specs.Texts.{count_line, summary_text};
 
 use crate::play_text::replay_text;
@@ -13,7 +14,8 @@ use story_check::Story;
 /// write of it.
 #[tactic(auto, unfolding(crate::specs::Texts::summary_text))]
 pub fn summary_text(alloc: Global, story: &Story) -> Result<Text, NoMemory>
-    requires { IsReady story.now }
+    requires free { stuck story.now ≡ false }
+    requires accepted { IsAccepted story.now }
     ensures { IfOk result (λ text. text ≡ summary_text story.now) }
 {
     let play = replay_text(alloc, story)?;

@@ -2,20 +2,19 @@
 ghost use Rattle.std.specs.Prelude.{◌≡◌, ◌↔◌, ◌≤◌, None, Some, IfOk, IfErr, OnOk, IsErrOf};
 ghost use Rattle.ax_edge.specs.Causes.{Rose};
 ghost use Rattle.ax_session.specs.declared.words.Command.TheVariants.{Dump, Replay, Run, Gen};
-ghost use Rattle.ax_session.specs.declared.story.Refusal.{Refusal};
+ghost use Rattle.story_check.specs.declared.refusals.Refusal.{Refusal};
 ghost use Rattle.ax_session.specs.Command.{command_of, HasCount};
 ghost use Rattle.ax_session.specs.Refusals.{refusal_text};
-ghost use Rattle.ax_session.specs.Story.{judged, AcceptFails};
+ghost use Rattle.story_check.specs.Acceptance.{judged, AcceptFails};
 ghost use Rattle.ax_session.specs.TopCall.{Does, IsReader, TakesFor, MayAnswer, StatusMeans, IsComplete, LeavesSource, LeavesSpawner};
 ghost use Rattle.story_gen.specs.Generated.{generated};
 
 use crate::play_text::replay_text;
 use crate::refusals::refusal_line;
-use crate::story::{accept, accept_last};
 use crate::summary::summary_text;
 use crate::threads::run_threads;
 use crate::tree_text::document_text;
-use crate::{AcceptFail, Command, Status, command_of};
+use crate::{Command, Status, command_of};
 use ax_ask::print_transcript;
 use ax_base::{NoMemory, Text};
 use ax_edge::{Gate, ReadError, Sink, Source, Spawner, read_input, write_whole};
@@ -23,6 +22,7 @@ use ax_world::playing_ends;
 use std::alloc::Global;
 use std::sync::Wait;
 use std::thread::Threads;
+use story_check::{AcceptFail, accept, accept_last};
 use story_gen::generate;
 
 /// Does the command that the words name: reads its input to the end, does the work, and writes the whole text.
