@@ -1,5 +1,5 @@
 -- Going over the stops before a target.
-use Rattle.std.proofs.Common.{◌≡◌, ℕ, ◌+◌, ◌<◌, ◌≤◌, ◌^◌, List, [], ◌∷◌, length, Bool, false, cond, sym, ap, ◌∙◌, arith, length-append, chars}
+use Rattle.std.proofs.Common.{◌≡◌, ℕ, ◌+◌, ◌<◌, List, [], ◌∷◌, length, Bool, false, cond, sym, ap, ◌∙◌, arith, length-append, chars}
 use Rattle.std.specs.Prelude.{find, Some, None}
 use Rattle.std.specs.List.{concat}
 use Rattle.text_marker.specs.Stops.{stops_from}

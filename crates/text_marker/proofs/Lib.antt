@@ -9,3 +9,5 @@ pub mod Order
 pub mod Stretches
 pub mod Going
 pub mod Rows
+pub mod Pushing
+pub mod Widening

@@ -1,6 +1,6 @@
 -- The moves of a marker, by the text that it is in and the texts next to that.
-use Rattle.std.proofs.Common.{◌≡◌, ℕ, ◌+◌, ◌<◌, ◌≤◌, List, [], ◌∷◌, ◌++◌, map, reverse, length, Contains, Bool, true, false, cond, ◌&&◌, nat_lt, nat_le, refl, sym, ap, subst, ◌∙◌, arith, append_assoc, chars, lt-ltb, le-ltb}
-use Rattle.std.specs.Prelude.{find, Option, Some, None, Result, Ok, Err, nat_eq}
+use Rattle.std.proofs.Common.{◌≡◌, ℕ, ◌+◌, List, [], ◌∷◌, ◌++◌, map, reverse, Contains, Bool, true, false, ◌&&◌, nat_lt, nat_le, refl, sym, ap, subst, ◌∙◌, arith, append_assoc}
+use Rattle.std.specs.Prelude.{find, Option, Some, None, Ok, nat_eq}
 use Rattle.std.specs.List.{flat_map, list_any}
 use Rattle.std.specs.Option.{option_map, unwrap_or}
 use Rattle.std.proofs.lemmas.Bool.Decides.{nat_tests}
@@ -12,12 +12,11 @@ use Rattle.ax_ask.specs.declared.requests.Marker.{Marker}
 use Rattle.ax_record.specs.declared.record.Record.{Record}
 use Rattle.ax_record.specs.Tree.{Tree, record_at}
 use Rattle.ax_record.specs.ObjectTrees.{IsObjectTree}
-use Rattle.text_order.specs.Texts.{is_text, texts, later_texts, earlier_texts, place}
+use Rattle.text_order.specs.Texts.{is_text, later_texts, earlier_texts, place}
 use Rattle.text_order.proofs.Laters.{parted_texts}
 use Rattle.text_marker.specs.Stops.{stops_of, word_begins}
 use Rattle.text_marker.specs.Markers.{text_at, mark, is_above, stops_at, stops, begins_word, next_char, prev_char, next_word}
 use Rattle.text_marker.specs.Answers.{refusal, unless, answered}
-use Rattle.text_marker.specs.declared.errors.MarkError.{MarkError}
 use Rattle.text_marker.proofs.Finding.{flat_parts, reverse-flat, reverse-map, in_front, behind, takes, skips, find_map, none_made, none_joined, find_alike, find_alike_joined}
 use Rattle.text_marker.proofs.Places.{earlier_place, later_place, lower, upper, level}
 use Rattle.text_marker.proofs.Stopping.{first_is}

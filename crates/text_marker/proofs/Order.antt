@@ -1,5 +1,5 @@
 -- Which of two texts comes first, by a walk from the one to the other.
-use Rattle.std.proofs.Common.{◌≡◌, ℕ, ◌<◌, ◌≤◌, List, [], ◌∷◌, ◌++◌, filter, reverse, Contains, Bool, true, false, cond, eqb, nat_lt, refl, sym, ap, subst, ◌∙◌, arith, ◌⊎◌, inl, inr, is_some, lt-ltb, le-ltb}
+use Rattle.std.proofs.Common.{◌≡◌, ℕ, List, [], ◌∷◌, ◌++◌, filter, reverse, Contains, Bool, true, false, cond, eqb, nat_lt, refl, sym, ap, subst, ◌∙◌, arith, ◌⊎◌, inl, inr, is_some, lt-ltb, le-ltb}
 use Rattle.std.specs.Prelude.{find, Option, Some, None, Ok, ◌==◌}
 use Rattle.std.specs.Option.{option_map_or}
 use Rattle.std.proofs.lemmas.Bool.{false≢true}
@@ -14,7 +14,7 @@ use Rattle.ax_record.specs.ObjectTrees.{IsObjectTree}
 use Rattle.ax_record.proofs.Preorder.{in_preorder}
 use Rattle.ax_record.specs.Orders.{wanted_at, before, after}
 use Rattle.ax_record.proofs.Lists.{parted}
-use Rattle.text_order.specs.Texts.{is_text, later_texts, earlier_texts, place}
+use Rattle.text_order.specs.Texts.{is_text, earlier_texts, place}
 use Rattle.text_order.proofs.Filters.{kept, filter_found, filter-reverse}
 use Rattle.text_order.proofs.Laters.{text_known}
 use Rattle.ax_ask.specs.declared.requests.Marker.{Marker}

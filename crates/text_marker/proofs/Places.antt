@@ -1,5 +1,5 @@
 -- The order of markers by the places of their texts.
-use Rattle.std.proofs.Common.{◌≡◌, ℕ, suc, ◌<◌, ◌≤◌, List, [], ◌∷◌, ◌++◌, length, reverse, Contains, Bool, true, false, cond, ◌&&◌, ◌||◌, eqb, nat_lt, refl, sym, ap, subst, ◌∙◌, arith, append_assoc, length-append, inl, inr, lt-ltb, le-ltb}
+use Rattle.std.proofs.Common.{◌≡◌, ℕ, suc, ◌<◌, ◌≤◌, List, [], ◌∷◌, ◌++◌, length, reverse, Contains, true, false, cond, ◌&&◌, ◌||◌, eqb, nat_lt, sym, ap, subst, ◌∙◌, arith, append_assoc, length-append, inl, inr, lt-ltb, le-ltb}
 use Rattle.std.proofs.lemmas.Bool.Decides.{eqb_tells}
 use Rattle.std.proofs.lemmas.List.Elements.{Contains-append_right}
 use Rattle.ax_base.specs.Trees.{HasNoRepeats}

@@ -1,5 +1,5 @@
 -- The stops of a text next to an offset, and its last stop.
-use Rattle.std.proofs.Common.{◌≡◌, ℕ, ◌+◌, ◌<◌, ◌≤◌, List, [], ◌∷◌, ◌++◌, length, reverse, Bool, true, false, cond, nat_lt, refl, sym, ap, subst, ◌∙◌, arith, length-append, append_assoc, chars, IsUtf8, lt-ltb, le-ltb}
+use Rattle.std.proofs.Common.{◌≡◌, ℕ, ◌+◌, ◌<◌, ◌≤◌, List, [], ◌∷◌, ◌++◌, length, reverse, Bool, true, cond, nat_lt, refl, sym, ap, subst, ◌∙◌, arith, length-append, chars, IsUtf8, lt-ltb, le-ltb}
 use Rattle.std.specs.Prelude.{find, Option, Some, None}
 use Rattle.std.specs.List.{concat, All}
 use Rattle.std.specs.Option.{option_or}

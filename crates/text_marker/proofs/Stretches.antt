@@ -1,6 +1,6 @@
 -- The line of a marker, by the runs of its text and of the texts around that.
-use Rattle.std.proofs.Common.{◌≡◌, ℕ, zero, suc, ◌+◌, ◌<◌, ◌≤◌, List, [], ◌∷◌, ◌++◌, map, reverse, length, take, drop, get_or, Contains, Bool, true, false, cond, ◌&&◌, eqb, refl, sym, ap, subst, ◌∙◌, arith, append_assoc, append-nil, inl, inr, chars}
-use Rattle.std.specs.Prelude.{find, Option, Some, None, Result, Ok, Err, slice_get}
+use Rattle.std.proofs.Common.{◌≡◌, ℕ, zero, suc, ◌+◌, ◌<◌, List, [], ◌∷◌, ◌++◌, reverse, length, take, drop, get_or, Bool, true, false, cond, ◌&&◌, refl, sym, ap, ◌∙◌, arith, append_assoc, append-nil, inl, inr, chars}
+use Rattle.std.specs.Prelude.{find, Some, None, Ok, slice_get}
 use Rattle.std.specs.List.{flat_map}
 use Rattle.std.specs.Option.{option_map, option_map_or, unwrap_or}
 use Rattle.std.proofs.Math.Seq.{take-suc}

@@ -1,11 +1,9 @@
 -- What is known of the text that a marker stands in.
-use Rattle.std.proofs.Common.{◌≡◌, ℕ, ◌*◌, ◌<◌, ◌≤◌, ◌^◌, List, [], length, Bool, true, false, not, ◌&&◌, nat_le, refl, sym, ap, subst, ◌∙◌, arith, chars, IsUtf8, is_some}
-use Rattle.std.specs.Prelude.{Option, Some, None, Ok}
-use Rattle.std.specs.Option.{option_and_then, option_map_or, unwrap_or}
+use Rattle.std.proofs.Common.{◌≡◌, ℕ, ◌≤◌, List, [], length, Bool, true, nat_le, refl, sym, ap, subst, ◌∙◌, arith, chars, IsUtf8}
+use Rattle.std.specs.Prelude.{Option, Some, None}
+use Rattle.std.specs.Option.{option_and_then, unwrap_or}
 use Rattle.std.proofs.lemmas.Bool.Decides.{nat_tests}
 use Rattle.std.proofs.lemmas.Str.{chars-nil}
-use Rattle.ax_base.specs.declared.role.Role.TheVariants.{Text}
-use Rattle.ax_base.specs.Runs.{may_have_runs}
 use Rattle.ax_ask.specs.declared.requests.Marker.{Marker}
 use Rattle.ax_record.specs.declared.record.Record.{Record}
 use Rattle.ax_record.specs.Tree.{Tree, record_at, has_object}

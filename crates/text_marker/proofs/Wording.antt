@@ -1,15 +1,13 @@
 -- Where words begin, and the stops of a text side by side with that.
-use Rattle.std.proofs.Common.{◌≡◌, ◌≢◌, ℕ, ◌+◌, ◌<◌, ◌≤◌, List, [], ◌∷◌, ◌++◌, filter, length, Bool, true, false, cond, ◌&&◌, ◌||◌, nat_le, refl, sym, ap, subst, ◌∙◌, arith, append_assoc, chars, IsUtf8}
+use Rattle.std.proofs.Common.{◌≡◌, ◌≢◌, ℕ, ◌+◌, ◌<◌, ◌≤◌, List, [], ◌∷◌, ◌++◌, filter, length, Bool, true, false, cond, ◌&&◌, ◌||◌, nat_le, refl, sym, ap, ◌∙◌, arith, append_assoc, chars, IsUtf8}
 use Rattle.std.specs.Prelude.{find, Option, Some, None, nat_eq, bytes_eq}
 use Rattle.std.specs.List.{list_any, concat}
 use Rattle.std.proofs.lemmas.Bool.{false≢true}
 use Rattle.std.proofs.lemmas.Bool.Decides.{nat_tests}
-use Rattle.std.proofs.lemmas.List.Elements.{filter-append}
-use Rattle.std.proofs.lemmas.List.Folds.{list_any-append}
 use Rattle.std.proofs.lemmas.Map.Views.{any-filter_same}
 use Rattle.std.proofs.lemmas.Slice.Eq.{bytes_eq-Decides}
 use Rattle.unicode_segmentation.specs.Segments.{has_alphanumeric}
-use Rattle.unicode_segmentation.specs.Word.{words, word_bounds, is_word_break}
+use Rattle.unicode_segmentation.specs.Word.{word_bounds, is_word_break}
 use Rattle.unicode_segmentation.proofs.SegmentsLemmas.{concat-segments}
 use Rattle.unicode_segmentation.specs.Grapheme.{graphemes}
 use Rattle.text_marker.specs.Stops.{stops_from, stops_of, begins_from, word_begins, word_begins_from}

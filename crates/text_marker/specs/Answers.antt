@@ -1,5 +1,5 @@
 -- What the calls on markers answer, with their refusals in their order.
-use Rattle.std.specs.Prelude.{◌≡◌, ℕ, ◌||◌, nat_lt, List, length, Option, Some, None, Result, Ok, Err, encode_utf8_all, if◌then◌else◌, ⊤}
+use Rattle.std.specs.Prelude.{◌≡◌, ℕ, ◌+◌, ◌<◌, ◌++◌, ◌||◌, nat_lt, List, length, Option, Some, None, Result, Ok, Err, encode_utf8_all, if◌then◌else◌, ⊤}
 use Rattle.ax_base.specs.Characters.{Chars}
 use Rattle.ax_ask.specs.declared.requests.Marker.{Marker}
 use Rattle.ax_record.specs.Tree.{Tree}
@@ -37,10 +37,17 @@ unless_long cs = if nat_lt 4096 (length cs) then Err Long else Ok (encode_utf8_a
 abbrev pub range_text : Tree → Marker → Marker → Result Chars MarkError
 range_text t a b = answered_both t a b (unless_long (range_words t a b))
 
--- a call gave what is to be answered, or there was no memory left
-abbrev pub Gave : {A : Type 0} → Result A MarkError → Result A MarkError → Type 0
-Gave answer (Ok value) = answer ≡ Ok value
-Gave answer (Err Stale) = answer ≡ Err Stale
-Gave answer (Err Out) = answer ≡ Err Out
-Gave answer (Err Long) = answer ≡ Err Long
-Gave answer (Err NoMemory) = ⊤
+-- what is refused for a cause is what is to be answered; only want of memory may come in its place
+abbrev pub IsRefusalOf : {A : Type 0} → Result A MarkError → MarkError → Type 0
+IsRefusalOf answer Stale = answer ≡ Err Stale
+IsRefusalOf answer Out = answer ≡ Err Out
+IsRefusalOf answer Long = answer ≡ Err Long
+IsRefusalOf answer NoMemory = ⊤
+
+-- characters were added to a text, where so many could still be added: how many can be added after that. Or there were more, or no memory.
+abbrev pub Pushed : ℕ → List ℕ → List ℕ → List ℕ → Result ℕ MarkError → Type 0
+Pushed left cs old new (Ok rest) = (rest + length cs ≡ left) × (new ≡ old ++ encode_utf8_all cs)
+Pushed left cs old new (Err Long) = left < length cs
+Pushed left cs old new (Err NoMemory) = ⊤
+Pushed left cs old new (Err Stale) = ⊥
+Pushed left cs old new (Err Out) = ⊥

@@ -1,6 +1,7 @@
 -- The text of a range, and its bounds (this project's own).
 use Rattle.std.specs.Prelude.{ℕ, ◌-◌, Bool, false, ◌&&◌, ◌==◌, nat_lt, if◌then◌else◌, List, [], ◌∷◌, ◌++◌, length, take, drop, filter, map, fold, Option, Some, None, slice_get}
 use Rattle.std.specs.List.{flat_map}
+use Rattle.std.specs.Option.{option_map_or}
 use Rattle.ax_ask.specs.declared.requests.Marker.{Marker}
 use Rattle.ax_base.specs.declared.rect.Rect.{Rect}
 use Rattle.ax_base.specs.declared.rect.Run.{Run}
@@ -81,6 +82,11 @@ range_runs t a b n = filter (shares (low_of a n) (high_of t b n)) (runs_of t n)
 abbrev pub least_rect : List Run → Option Rect
 least_rect [] = None
 least_rect (r ∷ rs) = Some (fold unite r.rect (map (λ (x : Run). x.rect) rs))
+
+-- the least rectangle that holds some bounds, where there are any, and the rectangles of some runs
+abbrev pub widened : Option Rect → List Run → Option Rect
+widened bounds [] = bounds
+widened bounds (r ∷ rs) = widened (Some (option_map_or (λ (b : Rect). unite b r.rect) bounds r.rect)) rs
 
 -- the bounds from one marker on to another
 abbrev pub bounds_between : Tree → Marker → Marker → Option Rect

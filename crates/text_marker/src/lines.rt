@@ -41,7 +41,7 @@ fn run_at(runs: &[Run], offset: u32, count: u32) -> Option<usize>
     ensures { MatchOption result
         (find (is_run_of offset count) runs.now ≡ None)
         (λ own. (own < length runs.now) × (find (is_run_of offset count) (take own runs.now) ≡ None)
-            × ((r : Run) → slice_get runs.now own ≡ Some r → is_run_of offset count r ≡ true)) }
+        × ((r : Run) → slice_get runs.now own ≡ Some r → is_run_of offset count r ≡ true)) }
 {
     let mut own = 0;
     while own < runs.len() {

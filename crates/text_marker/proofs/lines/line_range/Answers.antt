@@ -1,4 +1,4 @@
-use Rattle.std.proofs.Common.{◌≡◌, ◌≤◌, ◌+◌, ◌-◌, length, arith}
+use Rattle.std.proofs.Common.{◌+◌, ◌-◌, length, arith}
 use Rattle.text_marker.proofs.Stretches.{line_none, line_at}
 use Rattle.text_marker.proofs.Texts.{text_fits}
 use Rattle.text_marker.proofs.lines.line_range.Goals as goal

@@ -1,4 +1,4 @@
-use Rattle.std.proofs.Common.{◌≡◌, ◌∷◌, ◌≤◌, [], length, map, reverse, sym, ap, ◌∙◌, arith, chars}
+use Rattle.std.proofs.Common.{◌∷◌, map, reverse, sym, ap, ◌∙◌, arith}
 use Rattle.text_marker.specs.Stops.{stops_of}
 use Rattle.text_marker.specs.Markers.{mark, text_at}
 use Rattle.text_marker.proofs.Finding.{reverse-map}

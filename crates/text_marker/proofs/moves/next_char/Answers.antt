@@ -1,4 +1,4 @@
-use Rattle.std.proofs.Common.{◌≡◌, ◌≤◌, length, sym, ◌∙◌, arith}
+use Rattle.std.proofs.Common.{sym, ◌∙◌, arith}
 use Rattle.text_marker.proofs.Moving.{next_here, next_behind, next_none}
 use Rattle.text_marker.proofs.Texts.{text_fits}
 use Rattle.text_marker.proofs.moves.next_char.Goals as goal

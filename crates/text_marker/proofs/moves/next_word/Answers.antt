@@ -1,4 +1,4 @@
-use Rattle.std.proofs.Common.{◌≡◌, ◌≤◌, length, sym, ◌∙◌, arith}
+use Rattle.std.proofs.Common.{sym, ◌∙◌, arith}
 use Rattle.text_marker.proofs.Moving.{word_here, word_behind}
 use Rattle.text_marker.proofs.Texts.{text_fits, offset_low}
 use Rattle.text_marker.proofs.moves.next_word.Goals as goal

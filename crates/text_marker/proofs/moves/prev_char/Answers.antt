@@ -1,4 +1,4 @@
-use Rattle.std.proofs.Common.{◌≡◌, ◌≤◌, length, sym, ◌∙◌, arith}
+use Rattle.std.proofs.Common.{sym, ◌∙◌, arith}
 use Rattle.text_marker.proofs.Moving.{prev_here, prev_before, prev_none}
 use Rattle.text_marker.proofs.Texts.{text_fits}
 use Rattle.text_marker.proofs.moves.prev_char.Goals as goal

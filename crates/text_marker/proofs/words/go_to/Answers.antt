@@ -1,6 +1,6 @@
 use Rattle.std.proofs.Common.{◌∙◌, arith}
 use Rattle.unicode_segmentation.specs.Iter.{graphemes_left}
-use Rattle.text_marker.proofs.Going.{go_step, go_end, go_fits}
+use Rattle.text_marker.proofs.Going.{go_step, go_fits}
 use Rattle.text_marker.proofs.words.go_to.Goals as goal
 
 pub overflow_add-at : goal.overflow_add-at

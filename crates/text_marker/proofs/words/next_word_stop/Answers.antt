@@ -1,6 +1,5 @@
-use Rattle.std.proofs.Common.{◌≡◌, ◌+◌, length, filter, sym, ap, ◌∙◌, arith}
-use Rattle.std.specs.List.{concat}
-use Rattle.unicode_segmentation.specs.Iter.{graphemes_left, word_bounds_left, unicode_words_left}
+use Rattle.std.proofs.Common.{filter, sym, ap, ◌∙◌, arith}
+use Rattle.unicode_segmentation.specs.Iter.{graphemes_left, word_bounds_left}
 use Rattle.unicode_segmentation.specs.Segments.{has_alphanumeric}
 use Rattle.text_marker.specs.Stops.{word_begins_from}
 use Rattle.text_marker.proofs.Stopping.{pieces_fit}
