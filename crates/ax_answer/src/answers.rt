@@ -2,16 +2,14 @@
 ghost use Rattle.std.specs.Prelude.{◌≡◌, ◌≤◌, length, IfOk};
 ghost use Rattle.ax_answer.specs.Answers.{asked_object, answer_of, answer_whole, answer, children_from};
 
-use crate::markers::{told_bounds, told_mark, told_order, told_span, told_words};
+use crate::markers::{answer_text, told_bounds, told_mark, told_order, told_span};
 use crate::searches::answer_search;
 use ax_ask::{Reply, Request};
 use ax_base::{Ids, NoMemory, ObjId};
 use ax_record::{Record, TreeView};
 use hit_test::hit;
 use std::alloc::Global;
-use text_marker::{
-    compare, line_range, next_char, next_word, prev_char, range_bounds, range_text,
-};
+use text_marker::{compare, line_range, next_char, next_word, prev_char, range_bounds};
 
 /// What a tree answers to a request. It answers `Stale` exactly where the tree lacks an object or the object of a marker that
 /// the request names, and else `Out` exactly where a marker stands in no text or past its end. The only error is want of
@@ -83,7 +81,7 @@ fn answer_whole<T: TreeView>(alloc: Global, t: &T, q: &Request) -> Result<Reply,
         Request::PrevChar(at) => told_mark(prev_char(t, *at))?,
         Request::NextWord(at) => told_mark(next_word(t, *at))?,
         Request::LineAt(at) => told_span(line_range(t, *at))?,
-        Request::TextOf(a, b) => told_words(range_text(alloc, t, *a, *b))?,
+        Request::TextOf(a, b) => answer_text(alloc, t, *a, *b)?,
         Request::BoundsOf(a, b) => told_bounds(range_bounds(t, *a, *b))?,
         Request::Search(search) => answer_search(alloc, t, search)?,
         Request::Hit(x, y) => match hit(t, *x, *y) {

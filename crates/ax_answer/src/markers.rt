@@ -1,15 +1,14 @@
 //! The answers to requests about text markers: what is told of them, and of why there is none.
-ghost use Rattle.std.specs.Prelude.{◌≡◌, IfOk, Result};
-ghost use Rattle.ax_base.specs.declared.rect.Rect.{Rect};
-ghost use Rattle.ax_base.specs.Characters.{Chars};
+ghost use Rattle.std.specs.Prelude.{◌≡◌, IfOk};
 ghost use Rattle.ax_ask.specs.declared.replies.Reply.TheVariants.{Order, Words};
-ghost use Rattle.text_marker.specs.declared.errors.MarkError.{MarkError};
-ghost use Rattle.text_marker.specs.Answers.{Gave};
+ghost use Rattle.text_marker.specs.Answers.{range_text};
 ghost use Rattle.ax_answer.specs.Answers.{told, refusal_reply, mark_reply, span_reply, bounds_reply};
 
 use ax_ask::{Marker, Placing, Reply};
-use ax_base::{NoMemory, Rect, Text};
-use text_marker::MarkError;
+use ax_base::{NoMemory, Rect};
+use ax_record::TreeView;
+use std::alloc::Global;
+use text_marker::{MarkError, range_text};
 
 /// What is told of the order of two markers.
 pub(crate) fn told_order(answer: Result<Placing, MarkError>) -> Result<Reply, NoMemory>
@@ -56,11 +55,16 @@ pub(crate) fn told_bounds(answer: Result<Option<Rect>, MarkError>) -> Result<Rep
     }
 }
 
-/// What is told of the text of a range, which want of memory may keep back.
-pub(crate) fn told_words(answer: Result<Text, MarkError>) -> Result<Reply, NoMemory>
-    ensures { IfOk result (λ r. (wanted : Result Chars MarkError) → Gave wanted answer → r ≡ told Words wanted) }
+/// What a tree answers to a request for the text of a range.
+pub(crate) fn answer_text<T: TreeView>(
+    alloc: Global,
+    t: &T,
+    a: Marker,
+    b: Marker,
+) -> Result<Reply, NoMemory>
+    ensures { IfOk result (λ r. r ≡ told Words (range_text (T.tree t.now) a b)) }
 {
-    match answer {
+    match range_text(alloc, t, a, b) {
         Ok(words) => Ok(Reply::Words(words)),
         Err(MarkError::Stale) => Ok(Reply::Stale),
         Err(MarkError::Out) => Ok(Reply::Out),
