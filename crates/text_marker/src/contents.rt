@@ -10,7 +10,7 @@ use crate::ranges::{Range, range_of};
 use crate::standing::text_of;
 use crate::stops::count;
 use ax_ask::Marker;
-use ax_base::{ObjId, Run};
+use ax_base::{ObjId, Run, Text};
 use ax_record::TreeView;
 use std::alloc::Global;
 use text_order::next_text;
@@ -27,14 +27,14 @@ pub fn range_text<T: TreeView>(
     t: &T,
     a: Marker,
     b: Marker,
-) -> Result<String, MarkError>
-    ensures told { IfOk result (λ text. range_text (T.tree t.now) a b ≡ Ok (string_bytes text)) }
+) -> Result<Text, MarkError>
+    ensures told { IfOk result (λ text. range_text (T.tree t.now) a b ≡ Ok text) }
     ensures refused { IfErr result (λ e. IsRefusalOf (range_text (T.tree t.now) a b) e) }
 {
     let range = range_of(t, a, b)?;
     let mut out = String::new(alloc);
     match push_range(t, &range, &mut out, LONGEST) {
-        Ok(_) => Ok(out),
+        Ok(_) => Ok(Text::from_string(out)),
         Err(e) => Err(e),
     }
 }
