@@ -60,11 +60,11 @@ fn asked_object(q: &Request) -> Option<ObjId>
 fn answer_whole<T: TreeView>(alloc: Global, t: &T, q: &Request) -> Result<Reply, NoMemory>
     ensures { IfOk result (λ r. r ≡ answer_whole (T.tree t.now) q.now) }
 {
-    Ok(match q {
-        Request::Root => Reply::Root(t.root()),
+    match q {
+        Request::Root => Ok(Reply::Root(t.root())),
         Request::Focus => match t.focus() {
-            Some(id) => Reply::Focus(id),
-            None => Reply::Nothing,
+            Some(id) => Ok(Reply::Focus(id)),
+            None => Ok(Reply::Nothing),
         },
         Request::Role(_)
         | Request::Name(_)
@@ -75,20 +75,20 @@ fn answer_whole<T: TreeView>(alloc: Global, t: &T, q: &Request) -> Result<Reply,
         | Request::Live(_)
         | Request::Frame(_)
         | Request::Parent(_)
-        | Request::Children(_, _) => Reply::Nothing,
-        Request::Compare(a, b) => told_order(compare(t, *a, *b))?,
-        Request::NextChar(at) => told_mark(next_char(t, *at))?,
-        Request::PrevChar(at) => told_mark(prev_char(t, *at))?,
-        Request::NextWord(at) => told_mark(next_word(t, *at))?,
-        Request::LineAt(at) => told_span(line_range(t, *at))?,
-        Request::TextOf(a, b) => answer_text(alloc, t, *a, *b)?,
-        Request::BoundsOf(a, b) => told_bounds(range_bounds(t, *a, *b))?,
-        Request::Search(search) => answer_search(alloc, t, search)?,
+        | Request::Children(_, _) => Ok(Reply::Nothing),
+        Request::Compare(a, b) => Ok(told_order(compare(t, *a, *b))),
+        Request::NextChar(at) => Ok(told_mark(next_char(t, *at))),
+        Request::PrevChar(at) => Ok(told_mark(prev_char(t, *at))),
+        Request::NextWord(at) => Ok(told_mark(next_word(t, *at))),
+        Request::LineAt(at) => Ok(told_span(line_range(t, *at))),
+        Request::TextOf(a, b) => answer_text(alloc, t, *a, *b),
+        Request::BoundsOf(a, b) => Ok(told_bounds(range_bounds(t, *a, *b))),
+        Request::Search(search) => answer_search(alloc, t, search),
         Request::Hit(x, y) => match hit(t, *x, *y) {
-            Some(id) => Reply::Hit(id),
-            None => Reply::Nothing,
+            Some(id) => Ok(Reply::Hit(id)),
+            None => Ok(Reply::Nothing),
         },
-    })
+    }
 }
 
 /// What the record of an object answers to a request about it.

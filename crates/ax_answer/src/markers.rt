@@ -11,46 +11,44 @@ use std::alloc::Global;
 use text_marker::{MarkError, range_text};
 
 /// What is told of the order of two markers.
-pub(crate) fn told_order(answer: Result<Placing, MarkError>) -> Result<Reply, NoMemory>
-    ensures { IfOk result (λ r. r ≡ told Order answer) }
+pub(crate) fn told_order(answer: Result<Placing, MarkError>) -> Reply
+    ensures { result ≡ told Order answer }
 {
     match answer {
-        Ok(placing) => Ok(Reply::Order(placing)),
+        Ok(placing) => Reply::Order(placing),
         Err(fail) => told_refusal(fail),
     }
 }
 
 /// What is told of a step from a marker.
-pub(crate) fn told_mark(answer: Result<Option<Marker>, MarkError>) -> Result<Reply, NoMemory>
-    ensures { IfOk result (λ r. r ≡ told mark_reply answer) }
+pub(crate) fn told_mark(answer: Result<Option<Marker>, MarkError>) -> Reply
+    ensures { result ≡ told mark_reply answer }
 {
     match answer {
-        Ok(Some(at)) => Ok(Reply::Mark(at)),
-        Ok(None) => Ok(Reply::Nothing),
+        Ok(Some(at)) => Reply::Mark(at),
+        Ok(None) => Reply::Nothing,
         Err(fail) => told_refusal(fail),
     }
 }
 
 /// What is told of the line of a marker.
-pub(crate) fn told_span(
-    answer: Result<Option<(Marker, Marker)>, MarkError>,
-) -> Result<Reply, NoMemory>
-    ensures { IfOk result (λ r. r ≡ told span_reply answer) }
+pub(crate) fn told_span(answer: Result<Option<(Marker, Marker)>, MarkError>) -> Reply
+    ensures { result ≡ told span_reply answer }
 {
     match answer {
-        Ok(Some((start, end))) => Ok(Reply::Span(start, end)),
-        Ok(None) => Ok(Reply::Nothing),
+        Ok(Some((start, end))) => Reply::Span(start, end),
+        Ok(None) => Reply::Nothing,
         Err(fail) => told_refusal(fail),
     }
 }
 
 /// What is told of the bounds of a range.
-pub(crate) fn told_bounds(answer: Result<Option<Rect>, MarkError>) -> Result<Reply, NoMemory>
-    ensures { IfOk result (λ r. r ≡ told bounds_reply answer) }
+pub(crate) fn told_bounds(answer: Result<Option<Rect>, MarkError>) -> Reply
+    ensures { result ≡ told bounds_reply answer }
 {
     match answer {
-        Ok(Some(bounds)) => Ok(Reply::Bounds(bounds)),
-        Ok(None) => Ok(Reply::Nothing),
+        Ok(Some(bounds)) => Reply::Bounds(bounds),
+        Ok(None) => Reply::Nothing,
         Err(fail) => told_refusal(fail),
     }
 }
@@ -73,14 +71,14 @@ pub(crate) fn answer_text<T: TreeView>(
     }
 }
 
-/// What is told where markers have no answer. Want of memory is an error, and no reply.
-fn told_refusal(fail: MarkError) -> Result<Reply, NoMemory>
-    ensures { IfOk result (λ r. r ≡ refusal_reply fail) }
+/// What is told where markers have no answer. The calls whose answers come here take no memory.
+fn told_refusal(fail: MarkError) -> Reply
+    ensures { result ≡ refusal_reply fail }
 {
     match fail {
-        MarkError::Stale => Ok(Reply::Stale),
-        MarkError::Out => Ok(Reply::Out),
-        MarkError::Long => Ok(Reply::Long),
-        MarkError::NoMemory => Err(NoMemory),
+        MarkError::Stale => Reply::Stale,
+        MarkError::Out => Reply::Out,
+        MarkError::Long => Reply::Long,
+        MarkError::NoMemory => Reply::Nothing,
     }
 }
