@@ -1,8 +1,6 @@
 //! What nodes say, as whole texts: nothing of them is made flat, cut, or kept for another call.
 mod followed;
 mod parts;
-#[cfg(test)]
-mod tests;
 
 ghost use Rattle.std.specs.Prelude.{◌≡◌, IfOk, IsTrue};
 ghost use Rattle.std.specs.List.{flat_map};

@@ -25,6 +25,8 @@ mod replies;
 #[cfg(test)]
 mod roles;
 #[cfg(test)]
+mod said;
+#[cfg(test)]
 mod states;
 #[cfg(test)]
 mod stories;

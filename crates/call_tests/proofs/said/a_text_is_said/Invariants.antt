@@ -1,4 +1,4 @@
-use Rattle.ax_names.proofs.said.tests.a_text_is_said.Given as goal
+use Rattle.call_tests.proofs.said.a_text_is_said.Given as goal
 
 -- the ledger of the test is the blank one
 abbrev pub ghosts-say : goal.ghosts-say

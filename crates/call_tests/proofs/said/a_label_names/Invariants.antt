@@ -1,4 +1,4 @@
-use Rattle.ax_names.proofs.said.tests.a_label_names.Given as goal
+use Rattle.call_tests.proofs.said.a_label_names.Given as goal
 
 -- the ledger of the test is the blank one
 abbrev pub ghosts-ask : goal.ghosts-ask

@@ -2,9 +2,9 @@
 ghost use Rattle.std.specs.Prelude.{◌≡◌, IsTrue};
 ghost use Rattle.ax_base.specs.Document.{root, has};
 
-use crate::{description_of, name_of, said_plain, said_shown, said_whole};
 use ax_base::{ObjId, Steps, Text};
 use ax_dom::{Dom, Edit};
+use ax_names::{description_of, name_of, said_plain, said_shown, said_whole};
 use std::alloc::Global;
 use std::marker::Brand;
 use std::process::Abort;
