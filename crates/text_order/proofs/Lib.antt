@@ -1,3 +1,2 @@
 pub mod Filters
 pub mod Laters
-pub mod Counting
