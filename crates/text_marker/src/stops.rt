@@ -14,7 +14,7 @@ pub(crate) fn next_stop(text: &str, offset: u32) -> Option<u32>
     let mut pieces = text.graphemes(true);
     while let Some(piece) = pieces.next() {
         if offset < at {
-            return Some(offset + 1);
+            return Some(at);
         }
         at += count(piece);
     }
