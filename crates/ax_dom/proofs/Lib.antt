@@ -21,3 +21,5 @@ pub mod Amended
 pub mod Focused
 pub mod Walks
 pub mod Counted
+pub mod Copied
+pub mod Halving
