@@ -1,5 +1,5 @@
 //! Sets of ids.
-ghost use Rattle.std.specs.Prelude.{◌≡◌, ◌<◌, [], OnOk, OnErr, vec_len, slice_set};
+ghost use Rattle.std.specs.Prelude.{◌≡◌, ◌<◌, [], IfOk, OnOk, OnErr, vec_len, slice_set};
 ghost use Rattle.std.specs.List.{list_any};
 ghost use Rattle.std.specs.Ordering.{nat_cmp};
 ghost use Rattle.std.specs.Set.{remove_key};
@@ -59,6 +59,15 @@ impl Marks {
         grow(&mut self.items, at)?;
         self.items[at] = true;
         Ok(())
+    }
+
+    /// Equal marks.
+    fn copy(&self, alloc: Global) -> Result<Marks, NoMemory>
+        ensures { IfOk result (λ marks. marks ≡ self.now) }
+    {
+        Ok(Marks {
+            items: Vec::from_slice(alloc, self.items.as_slice())?,
+        })
     }
 
     /// Takes the mark of an id away.
@@ -126,6 +135,16 @@ impl IdSet {
         }
         self.far.insert(id.0)?;
         Ok(())
+    }
+
+    /// An equal set.
+    pub fn copy(&self, alloc: Global) -> Result<IdSet, NoMemory>
+        ensures { IfOk result (λ ids. ids ≡ self.now) }
+    {
+        Ok(IdSet {
+            near: self.near.copy(alloc)?,
+            far: self.far.clone()?,
+        })
     }
 
     /// Takes an id away.

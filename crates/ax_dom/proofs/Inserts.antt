@@ -43,7 +43,7 @@ module _ (d : Document) (t : IsTree d) (id into : ℕ) (before : Option ℕ) (b 
   abbrev nodes_after : Bool → Bool → List ℕ → List ℕ
   nodes_after is_new is_into cs = cond is_new [] (cond is_into list cs)
 
-  children_is : (q : ℕ) → children e q ≡ nodes_after (finds q id) (finds into q) (children d q)
+  pub children_is : (q : ℕ) → children e q ≡ nodes_after (finds q id) (finds into q) (children d q)
   children_is q = ap (λ o. option_map_or (λ (x : Node). x.children) o []) (node_is q) ∙ go (finds q id) (finds into q)
     where
       go : (x y : Bool) → option_map_or (λ (x : Node). x.children) (node_after x y (node d q)) [] ≡ nodes_after x y (children d q)
@@ -63,7 +63,7 @@ module _ (d : Document) (t : IsTree d) (id into : ℕ) (before : Option ℕ) (b 
       go false false is inside = inl inside
 
   -- a node of the old document is not the new one
-  old_apart : (q : ℕ) → has d q ≡ true → finds q id ≡ false
+  pub old_apart : (q : ℕ) → has d q ≡ true → finds q id ≡ false
   old_apart q there = elim (finds_tells q id) [ inl (_, same) ↦ absurd (false≢true (sym new ∙ ap (has d) (sym same) ∙ there)) | inr (off, _) ↦ off ]
 
   pub into_apart : finds into id ≡ false
@@ -81,10 +81,10 @@ module _ (d : Document) (t : IsTree d) (id into : ℕ) (before : Option ℕ) (b 
   child_new = subst (λ xs. Contains xs id) (sym (children_is into))
       (let off = into_apart in let on = finds_same into into refl in rw (off, on) (placed_has before id (children d into)))
 
-  has_new : has e id ≡ true
+  pub has_new : has e id ≡ true
   has_new = let on = finds_same id id refl in ap is_some (node_is id) ∙ ap (λ x. is_some (node_after x (finds into id) (node d id))) on
 
-  has_kept : (q : ℕ) → has d q ≡ true → has e q ≡ true
+  pub has_kept : (q : ℕ) → has d q ≡ true → has e q ≡ true
   has_kept q there = ap is_some (node_is q) ∙ go (finds q id) (finds into q)
     where
       go : (x y : Bool) → is_some (node_after x y (node d q)) ≡ true
@@ -100,7 +100,7 @@ module _ (d : Document) (t : IsTree d) (id into : ℕ) (before : Option ℕ) (b 
       go false true is_new is_into some = inr (ap (has d) (sym (found_is into q is_into)) ∙ old)
       go false false is_new is_into some = inr some
 
-  body_kept : (q : ℕ) → has d q ≡ true → body e q ≡ body d q
+  pub body_kept : (q : ℕ) → has d q ≡ true → body e q ≡ body d q
   body_kept q there = ap (λ o. option_map_or (λ (x : Node). x.body) o (Words [] [])) (node_is q) ∙ go (finds q id) (finds into q) (old_apart q there) refl
     where
       go : (x y : Bool) → x ≡ false → finds into q ≡ y → option_map_or (λ (x : Node). x.body) (node_after x y (node d q)) (Words [] []) ≡ body d q
@@ -197,7 +197,7 @@ module _ (d : Document) (t : IsTree d) (id into : ℕ) (before : Option ℕ) (b 
     focused = λ n some. has_kept n (t.focused n some);
   }
 
-  parent_kept : (q : ℕ) → has d q ≡ true → parent e q ≡ parent d q
+  pub parent_kept : (q : ℕ) → has d q ≡ true → parent e q ≡ parent d q
   parent_kept q there = elim (eqb_tells q root) [ inl (_, is) ↦ at_root is | inr (_, apart) ↦ below apart ]
     where
       at_root : q ≡ root → parent e q ≡ parent d q

@@ -22,3 +22,5 @@ pub mod Amended
 pub mod Focused
 pub mod Walks
 pub mod Counted
+pub mod Copied
+pub mod Halving

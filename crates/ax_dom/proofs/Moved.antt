@@ -75,14 +75,14 @@ module _ (d : Document) (t : IsTree d) (n into : ℕ) (before : Option ℕ) (apa
   abbrev children_after : Bool → List ℕ → List ℕ
   children_after is_into cs = cond is_into list cs
 
-  children_moved : (q : ℕ) → children e q ≡ children_after (finds into q) (without n (children d q))
+  pub children_moved : (q : ℕ) → children e q ≡ children_after (finds into q) (without n (children d q))
   children_moved q = ap (λ o. option_map_or (λ (x : Node). x.children) o []) (node_moved q) ∙ go (finds into q)
     where
       go : (x : Bool) → option_map_or (λ (x : Node). x.children) (cond x (Some (record { body = body u into; children = list })) (node u q)) [] ≡ children_after x (without n (children d q))
       go true = refl
       go false = children_unhung q
 
-  body_moved : (q : ℕ) → body e q ≡ body d q
+  pub body_moved : (q : ℕ) → body e q ≡ body d q
   body_moved q = ap (λ o. option_map_or (λ (x : Node). x.body) o (Words [] [])) (node_moved q) ∙ go (finds into q) refl
     where
       go : (x : Bool) → finds into q ≡ x → option_map_or (λ (x : Node). x.body) (cond x (Some (record { body = body u into; children = list })) (node u q)) (Words [] []) ≡ body d q
@@ -111,7 +111,7 @@ module _ (d : Document) (t : IsTree d) (n into : ℕ) (before : Option ℕ) (apa
       go true same = placed_keeps before n c (children u into) (subst (λ xs. Contains xs c) (sym (children_unhung into)) (without_keeps n c (children d into) (subst (λ x. IsChild d x c) (sym (found_is into p same)) child) differs))
       go false other = without_keeps n c (children d p) child differs
 
-  child_moved : IsChild e into n
+  pub child_moved : IsChild e into n
   child_moved = subst (λ xs. Contains xs n) (sym (children_moved into)) (subst (λ x. Contains (children_after x (without n (children d into))) n) (sym (finds_same into into refl)) (placed_has before n (children u into)))
 
   once_moved : (q : ℕ) → HasNoRepeats (children e q)
@@ -213,7 +213,7 @@ module _ (d : Document) (t : IsTree d) (n into : ℕ) (before : Option ℕ) (apa
     focused = λ f some. has_moved f ∙ t.focused f some;
   }
 
-  place_stays : (q : ℕ) → has d q ≡ true → q ≢ n → (q ≡ root) ⊎ ((p : ℕ) × IsChild d p q × IsChild e p q)
+  pub place_stays : (q : ℕ) → has d q ≡ true → q ≢ n → (q ≡ root) ⊎ ((p : ℕ) × IsChild d p q × IsChild e p q)
   place_stays q there differs = elim (eqb_tells q root) [ inl (_, is) ↦ inl is | inr (_, below) ↦ inr ((t.hung q there below).0, (t.hung q there below).1, child_stays (t.hung q there below).0 q (t.hung q there below).1 differs) ]
 
   -- a node that is not within the moved one keeps its cell

@@ -81,23 +81,23 @@ module _ (d : Document) (t : IsTree d) (n : ℕ) (apart : n ≢ root) where
   body-map None = refl
   body-map (Some x) = refl
 
-  has_outside : (q : ℕ) → is_within d n q ≡ false → has e q ≡ has d q
+  pub has_outside : (q : ℕ) → is_within d n q ≡ false → has e q ≡ has d q
   has_outside q off = ap is_some (node_outside q off) ∙ is_some-map (node d q)
 
-  children_outside : (q : ℕ) → is_within d n q ≡ false → children e q ≡ without n (children d q)
+  pub children_outside : (q : ℕ) → is_within d n q ≡ false → children e q ≡ without n (children d q)
   children_outside q off = ap (λ o. option_map_or (λ (x : Node). x.children) o []) (node_outside q off) ∙ children-map (node d q)
 
   children_inside : (q : ℕ) → is_within d n q ≡ true → children e q ≡ []
   children_inside q on = ap (λ o. option_map_or (λ (x : Node). x.children) o []) (node_inside q on)
 
-  body_outside : (q : ℕ) → is_within d n q ≡ false → body e q ≡ body d q
+  pub body_outside : (q : ℕ) → is_within d n q ≡ false → body e q ≡ body d q
   body_outside q off = ap (λ o. option_map_or (λ (x : Node). x.body) o (Words [] [])) (node_outside q off) ∙ body-map (node d q)
 
   body_inside : (q : ℕ) → is_within d n q ≡ true → body e q ≡ Words [] []
   body_inside q on = ap (λ o. option_map_or (λ (x : Node). x.body) o (Words [] [])) (node_inside q on)
 
   -- what is there is not within the node
-  left_outside : (q : ℕ) → has e q ≡ true → is_within d n q ≡ false
+  pub left_outside : (q : ℕ) → has e q ≡ true → is_within d n q ≡ false
   left_outside q there = go (is_within d n q) refl
     where
       go : (x : Bool) → is_within d n q ≡ x → x ≡ false

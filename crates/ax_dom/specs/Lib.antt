@@ -1,7 +1,9 @@
 pub mod Places
 pub mod Used
 pub mod Slots
+pub mod Copies
 pub mod Subtrees
+pub mod Among
 pub mod Rewrites
 pub mod Bodies
 pub mod Bounds

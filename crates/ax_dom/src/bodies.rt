@@ -1,10 +1,27 @@
 //! What an edit makes of the one node that it changes.
-ghost use Rattle.std.specs.Prelude.{◌≡◌, OnOk, OnErr};
+ghost use Rattle.std.specs.Prelude.{◌≡◌, IfOk, OnOk, OnErr};
 ghost use Rattle.ax_dom.specs.Bodies.{with_chars, with_attr, without_attr, with_runs, with_frame, body_after};
 
 use crate::edit::Edit;
 use ax_base::{Body, NoMemory, Rect, Runs, Text};
 use std::alloc::Global;
+
+/// An equal element or text.
+pub fn copy_body(alloc: Global, body: &Body) -> Result<Body, NoMemory>
+    ensures { IfOk result (λ b. b ≡ body.now) }
+{
+    match body {
+        Body::Element { tag, attrs, frame } => Ok(Body::Element {
+            tag: tag.copy(alloc)?,
+            attrs: attrs.copy(alloc)?,
+            frame: *frame,
+        }),
+        Body::Words { chars, runs } => Ok(Body::Words {
+            chars: chars.copy(alloc)?,
+            runs: runs.copy(alloc)?,
+        }),
+    }
+}
 
 /// Does an edit that changes a node alone. At an error nothing changes.
 pub fn amend_body(alloc: Global, body: &mut Body, e: Edit) -> Result<(), NoMemory>

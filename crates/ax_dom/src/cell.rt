@@ -1,5 +1,9 @@
 //! A node of the document, with its place.
-use ax_base::{Body, Ids, ObjId};
+ghost use Rattle.std.specs.Prelude.{◌≡◌, IfOk};
+
+use crate::bodies::copy_body;
+use ax_base::{Body, Ids, NoMemory, ObjId};
+use std::alloc::Global;
 
 /// A node of the document.
 #[derive(Drop)]
@@ -19,4 +23,30 @@ pub struct Cell {
 pub struct Slot {
     pub cell: Cell,
     pub children: Ids,
+}
+
+impl Cell {
+    /// An equal cell.
+    fn copy(&self, alloc: Global) -> Result<Cell, NoMemory>
+        ensures { IfOk result (λ c. c ≡ self.now) }
+    {
+        Ok(Cell {
+            id: self.id,
+            parent: self.parent,
+            depth: self.depth,
+            body: copy_body(alloc, &self.body)?,
+        })
+    }
+}
+
+impl Slot {
+    /// An equal node with equal children.
+    pub fn copy(&self, alloc: Global) -> Result<Slot, NoMemory>
+        ensures { IfOk result (λ s. s ≡ self.now) }
+    {
+        Ok(Slot {
+            cell: self.cell.copy(alloc)?,
+            children: self.children.copy(alloc)?,
+        })
+    }
 }

@@ -1,10 +1,11 @@
 //! The document.
 mod changes;
+mod copies;
 mod refusals;
 mod subtrees;
 
 ghost use Rattle.std.specs.Prelude.{◌≡◌, ◌+◌, IfOk, OnOk, OnErr, IfErr, if◌then◌else◌, Some, None, option_copied};
-ghost use Rattle.ax_base.specs.Document.{children, parent};
+ghost use Rattle.ax_base.specs.Document.{children, has, parent};
 ghost use Rattle.ax_base.specs.Trees.{IsTree};
 ghost use Rattle.ax_dom.specs.Slots.{cell_at};
 ghost use Rattle.ax_dom.specs.Bounds.{EditKeepsBounds};
@@ -95,6 +96,13 @@ impl Dom {
     {
         steps.tick();
         self.parent_of(id)
+    }
+
+    /// Whether it has a node of that id. It counts no step, and takes no memory.
+    pub fn has(&self, id: ObjId) -> bool
+        ensures { result ≡ has self.now id }
+    {
+        self.slots.has(id)
     }
 
     /// The focused node.

@@ -6,6 +6,7 @@ mod cause;
 mod cell;
 mod dom;
 mod edit;
+mod rising;
 mod slots;
 mod used;
 
@@ -14,3 +15,4 @@ pub use cause::EditCause;
 pub use cell::Cell;
 pub use dom::Dom;
 pub use edit::Edit;
+pub use rising::{add_rising, is_among};

@@ -7,6 +7,7 @@ ghost use Rattle.std.specs.BTreeMap.{is_at, insert_entry};
 ghost use Rattle.std.specs.Map.{keys_of, remove_entry, set_value};
 ghost use Rattle.ax_base.specs.Trees.{HasNoRepeats};
 ghost use Rattle.ax_dom.specs.declared.cell.Slot.{Slot};
+ghost use Rattle.ax_dom.specs.Copies.{AreCopiedAt, with_slot};
 ghost use Rattle.ax_dom.specs.Slots.{slot_at};
 ghost use Rattle.ax_dom.specs.Bodies.{slot_after};
 ghost use Rattle.ax_dom.specs.Places.{placed, placed_before, without};
@@ -56,6 +57,28 @@ impl Slots {
         ensures { result ≡ is_some (slot_at self.now id) }
     {
         self.map.has(id)
+    }
+
+    /// The nodes of some ids, copied.
+    pub fn copy_of(&self, alloc: Global, ids: &[ObjId]) -> Result<Slots, NoMemory>
+        ensures { IfOk result (λ slots. AreCopiedAt self.now slots ids.now) }
+    {
+        let mut copy = Slots::new(alloc);
+        for id in ids {
+            copy.add_copy(alloc, self, *id)?;
+        }
+        Ok(copy)
+    }
+
+    /// Adds a copy of the node of an id that others have, if they have it.
+    fn add_copy(&mut self, alloc: Global, from: &Slots, id: ObjId) -> Result<(), NoMemory>
+        ensures { OnOk result (self.new ≡ with_slot self.old id (slot_at from.now id)) }
+    {
+        if let Some(slot) = from.get(id) {
+            let copy = slot.copy(alloc)?;
+            self.add(id, copy)?;
+        }
+        Ok(())
     }
 
     /// Adds a node. At an error nothing changes.

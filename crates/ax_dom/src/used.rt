@@ -1,5 +1,5 @@
 //! The ids that were ever inserted.
-ghost use Rattle.std.specs.Prelude.{◌≡◌, length, false, OnOk, OnErr, []};
+ghost use Rattle.std.specs.Prelude.{◌≡◌, length, false, IfOk, OnOk, OnErr, []};
 ghost use Rattle.std.specs.List.{list_any};
 ghost use Rattle.std.specs.Ordering.{nat_cmp};
 ghost use Rattle.std.specs.BTreeMap.{is_at};
@@ -43,6 +43,16 @@ impl UsedIds {
         ensures { result ≡ list_any (is_at (nat_cmp id)) self.now }
     {
         self.ids.has(id)
+    }
+
+    /// Equal ids.
+    pub fn copy(&self, alloc: Global) -> Result<UsedIds, NoMemory>
+        ensures { IfOk result (λ used. used ≡ self.now) }
+    {
+        Ok(UsedIds {
+            ids: self.ids.copy(alloc)?,
+            count: self.count,
+        })
     }
 
     /// How many ids were inserted.

@@ -170,13 +170,6 @@ impl Dom {
         }
     }
 
-    /// Whether it has a node of that id.
-    fn has(&self, id: ObjId) -> bool
-        ensures { result ≡ has self.now id }
-    {
-        self.slots.has(id)
-    }
-
     /// Whether an id is the root's or was ever inserted.
     fn is_taken(&self, id: ObjId) -> bool
         ensures { result ≡ is_taken self.now id }
