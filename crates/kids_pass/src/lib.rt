@@ -1,0 +1,7 @@
+//! The objects that hang on each node, kept by node and renewed where they may have changed.
+#![tactic(auto)]
+
+mod children;
+mod renewing;
+
+pub use children::Kids;
