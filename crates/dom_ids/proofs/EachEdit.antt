@@ -1,18 +1,20 @@
 -- What each edit that nothing refuses changes.
-use Rattle.std.proofs.Common.{◌≡◌, ◌≢◌, ◌⊎◌, inl, inr, ℕ, zero, suc, ◌≤◌, ◌-◌, ◌+◌, List, [], ◌∷◌, ◌++◌, Bool, true, false, cond, not, ◌||◌, Option, Some, None, is_some, Contains, refl, sym, ap, subst, ◌∙◌, arith, eqb}
-use Rattle.std.specs.Prelude.{filter, nat_eq, nat_lt, flat_map}
+use Rattle.std.proofs.Common.{◌≡◌, ◌≢◌, ◌⊎◌, inl, inr, ℕ, zero, suc, ◌≤◌, ◌-◌, ◌+◌, List, [], ◌∷◌, ◌++◌, Bool, true, false, cond, not, ◌||◌, ◌&&◌, take, Option, Some, None, is_some, Contains, refl, sym, ap, subst, ◌∙◌, arith, eqb}
+use Rattle.std.specs.Prelude.{filter, nat_eq, nat_lt, flat_map, bytes_eq, codes, unwrap_or}
 use Rattle.std.specs.List.{list_any}
 use Rattle.std.specs.Option.{option_map_or}
 use Rattle.std.specs.Cmp.{nat_eq_equiv}
 use Rattle.std.proofs.lemmas.Bool.{false≢true, or_parts, ltb-false, eqb-true, eq-eqb}
 use Rattle.std.proofs.lemmas.Bool.Decides.{eqb_tells}
 use Rattle.std.proofs.lemmas.Map.Views.{list_any-from_Contains}
+use Rattle.std.proofs.lemmas.Slice.Eq.{bytes_eq-Decides}
+use Rattle.ax_base.specs.Attributes.{value_of, with_value, without_name}
 use Rattle.ax_base.specs.declared.attrs.Attr.{Attr}
 use Rattle.ax_base.specs.declared.body.Body.{Body}
 use Rattle.ax_base.specs.declared.body.Body.TheVariants.{Element, Words}
 use Rattle.ax_base.specs.declared.rect.Rect.{Rect}
 use Rattle.ax_base.specs.declared.rect.Run.{Run}
-use Rattle.ax_base.specs.Characters.{Chars}
+use Rattle.ax_base.specs.Characters.{Chars, tokens}
 use Rattle.ax_base.specs.Document.{Document, Node, node, root, spot, preorder, body, has, children, depth, lineage, is_text, has_id, IsChild}
 use Rattle.ax_base.specs.AccessibleNames.{is_label_for}
 use Rattle.ax_base.specs.Rects.{HasRectsWithin}
@@ -44,7 +46,7 @@ use Rattle.ax_dom.proofs.Removed.{children_outside, body_outside, left_outside, 
 use Rattle.ax_dom.proofs.Subtrees.{subtree_unfolds, subtree_has, within_child, within_level, lineage_within_subtree}
 use Rattle.ax_dom.proofs.Without.{without_cases, without_none}
 use Rattle.dom_ids.specs.Hanging.{Rehung, AreTiedAlike, Follows, went, came, shifted}
-use Rattle.dom_ids.specs.References.{names_text}
+use Rattle.dom_ids.specs.References.{is_tie, is_text_in, names_text}
 
 no_finds : (n q : ℕ) → n ≢ q → finds n q ≡ false
 no_finds n q apart = elim (finds_tells n q) [ inl (_, same) ↦ absurd (apart same) | inr (off, _) ↦ off ]
@@ -298,6 +300,55 @@ runs_alike : (new : List Run) (b : Body) → AreTiedAlike b (with_runs new b)
 runs_alike new (Element tag attrs frame) = record { ids_same = λ x. refl; names_same = λ x. refl; labels_same = λ x. refl }
 runs_alike new (Words chars runs) = record { ids_same = λ x. refl; names_same = λ x. refl; labels_same = λ x. refl }
 
+-- attributes of another name stay
+value_stays : (other name value : Chars) (attrs : List Attr) → bytes_eq name other ≡ false → value_of other attrs ≡ value_of other (with_value name value attrs)
+value_stays other name value [] apart = ap (λ b. cond b (Some value) None) (sym apart)
+value_stays other name value (a ∷ attrs) apart = go (bytes_eq a.name name) refl (value_stays other name value attrs apart)
+  where
+    go : (b : Bool) → bytes_eq a.name name ≡ b → value_of other attrs ≡ value_of other (with_value name value attrs) → value_of other (a ∷ attrs) ≡ value_of other (cond b (record { name = a.name; value = value } ∷ attrs) (a ∷ with_value name value attrs))
+    go true is rest = let off : bytes_eq a.name other ≡ false = ap (λ n. bytes_eq n other) ((bytes_eq-Decides a.name name).0 is) ∙ apart in
+        ap (λ b. cond b (Some a.value) (value_of other attrs)) off ∙ ap (λ b. cond b (Some value) (value_of other attrs)) (sym off)
+    go false is rest = ap (λ o. cond (bytes_eq a.name other) (Some a.value) o) rest
+
+value_left : (other name : Chars) (attrs : List Attr) → bytes_eq name other ≡ false → value_of other attrs ≡ value_of other (without_name name attrs)
+value_left other name [] apart = refl
+value_left other name (a ∷ attrs) apart = go (bytes_eq a.name name) refl (value_left other name attrs apart)
+  where
+    go : (b : Bool) → bytes_eq a.name name ≡ b → value_of other attrs ≡ value_of other (without_name name attrs) → value_of other (a ∷ attrs) ≡ value_of other (cond (not b) (a ∷ without_name name attrs) (without_name name attrs))
+    go true is rest = let off : bytes_eq a.name other ≡ false = ap (λ n. bytes_eq n other) ((bytes_eq-Decides a.name name).0 is) ∙ apart in
+        ap (λ b. cond b (Some a.value) (value_of other attrs)) off ∙ rest
+    go false is rest = ap (λ o. cond (bytes_eq a.name other) (Some a.value) o) rest
+
+-- so what a node carries and refers to stays where an attribute changes that has nothing to do with it
+attrs_alike : (tag : Chars) (frame other : Rect) (attrs new : List Attr) → value_of (codes "id") attrs ≡ value_of (codes "id") new → value_of (codes "for") attrs ≡ value_of (codes "for") new
+    → value_of (codes "aria-labelledby") attrs ≡ value_of (codes "aria-labelledby") new → value_of (codes "aria-describedby") attrs ≡ value_of (codes "aria-describedby") new → AreTiedAlike (Element tag attrs frame) (Element tag new other)
+attrs_alike tag frame other attrs new id_same for_same labelledby_same describedby_same = record {
+  ids_same = λ x i. option_map_or (bytes_eq x) (id_same i) false;
+  names_same = λ x i. is_text_in (take 8 (tokens (unwrap_or (labelledby_same i) []))) x || is_text_in (take 8 (tokens (unwrap_or (describedby_same i) []))) x;
+  labels_same = λ x i. bytes_eq tag (codes "label") && option_map_or (bytes_eq x) (for_same i) false;
+}
+
+untied : (name : Chars) → is_tie name ≡ false → (bytes_eq name (codes "id") ≡ false) × (bytes_eq name (codes "for") ≡ false) × (bytes_eq name (codes "aria-labelledby") ≡ false) × (bytes_eq name (codes "aria-describedby") ≡ false)
+untied name off =
+    let p = or_parts (bytes_eq name (codes "id")) _ off in
+    let q = or_parts (bytes_eq name (codes "for")) _ p.1 in
+    let r = or_parts (bytes_eq name (codes "aria-labelledby")) (bytes_eq name (codes "aria-describedby")) q.1 in
+    (p.0, q.0, r.0, r.1)
+
+attr_alike : (name value : Chars) (b : Body) → is_tie name ≡ false → AreTiedAlike b (with_attr name value b)
+attr_alike name value (Words chars runs) off = alike_same (Words chars runs) (Words chars runs) refl
+attr_alike name value (Element tag attrs frame) off =
+    let p = untied name off in
+    attrs_alike tag frame frame attrs (with_value name value attrs) (value_stays (codes "id") name value attrs p.0) (value_stays (codes "for") name value attrs p.1)
+      (value_stays (codes "aria-labelledby") name value attrs p.2) (value_stays (codes "aria-describedby") name value attrs p.3)
+
+unset_alike : (name : Chars) (b : Body) → is_tie name ≡ false → AreTiedAlike b (without_attr name b)
+unset_alike name (Words chars runs) off = alike_same (Words chars runs) (Words chars runs) refl
+unset_alike name (Element tag attrs frame) off =
+    let p = untied name off in
+    attrs_alike tag frame frame attrs (without_name name attrs) (value_left (codes "id") name attrs p.0) (value_left (codes "for") name attrs p.1)
+      (value_left (codes "aria-labelledby") name attrs p.2) (value_left (codes "aria-describedby") name attrs p.3)
+
 -- no cause holds
 record IsFree (d : Document) (e : Edit) : Type 0 where
   known : lacks_node d e ≡ false
@@ -388,11 +439,25 @@ module _ (d : Document) (t : IsTree d) (all_inserted : (n : ℕ) → has d n ≡
         (λ m inside. ltb-false 64 (depth d into + 1 + (depth d m - depth d id)) (none_at (λ m. nat_lt 64 (depth d into + 1 + (depth d m - depth d id))) (subtree d id) m free.low inside))
         u
 
-  set : (id : ℕ) (name value : Chars) → edit_cause d (Set id name value) ≡ None → IsTree (edited d (Set id name value)) → Follows d (edited d (Set id name value)) (id ∷ []) (id ∷ []) []
-  set id name value none u = follows_amended d t id (with_attr name value (body d id)) (shown (has d id) (free_from d (Set id name value) none).known) (kind_stays (Set id name value) (body d id)) u
+  set : (id : ℕ) (name value : Chars) → edit_cause d (Set id name value) ≡ None → IsTree (edited d (Set id name value)) → Follows d (edited d (Set id name value)) (went d (Set id name value)) (came (Set id name value)) []
+  set id name value none u = go (is_tie name) refl
+    where
+      there : has d id ≡ true
+      there = shown (has d id) (free_from d (Set id name value) none).known
 
-  unset : (id : ℕ) (name : Chars) → edit_cause d (Unset id name) ≡ None → IsTree (edited d (Unset id name)) → Follows d (edited d (Unset id name)) (id ∷ []) (id ∷ []) []
-  unset id name none u = follows_amended d t id (without_attr name (body d id)) (shown (has d id) (free_from d (Unset id name) none).known) (kind_stays (Unset id name) (body d id)) u
+      go : (b : Bool) → is_tie name ≡ b → Follows d (edited d (Set id name value)) (cond b (id ∷ []) []) (cond b (id ∷ []) []) []
+      go true is = follows_amended d t id (with_attr name value (body d id)) there (kind_stays (Set id name value) (body d id)) u
+      go false off = follows_alike d t id (with_attr name value (body d id)) there (kind_stays (Set id name value) (body d id)) u (attr_alike name value (body d id) off)
+
+  unset : (id : ℕ) (name : Chars) → edit_cause d (Unset id name) ≡ None → IsTree (edited d (Unset id name)) → Follows d (edited d (Unset id name)) (went d (Unset id name)) (came (Unset id name)) []
+  unset id name none u = go (is_tie name) refl
+    where
+      there : has d id ≡ true
+      there = shown (has d id) (free_from d (Unset id name) none).known
+
+      go : (b : Bool) → is_tie name ≡ b → Follows d (edited d (Unset id name)) (cond b (id ∷ []) []) (cond b (id ∷ []) []) []
+      go true is = follows_amended d t id (without_attr name (body d id)) there (kind_stays (Unset id name) (body d id)) u
+      go false off = follows_alike d t id (without_attr name (body d id)) there (kind_stays (Unset id name) (body d id)) u (unset_alike name (body d id) off)
 
   new_chars : (id : ℕ) (chars : Chars) → edit_cause d (NewChars id chars) ≡ None → IsTree (edited d (NewChars id chars)) → Follows d (edited d (NewChars id chars)) [] [] []
   new_chars id chars none u = follows_alike d t id (with_chars chars (body d id)) (shown (has d id) (free_from d (NewChars id chars) none).known) (kind_stays (NewChars id chars) (body d id)) u (chars_alike chars (body d id))

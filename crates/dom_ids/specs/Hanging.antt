@@ -1,5 +1,5 @@
 -- What an edit changes of what an index keeps.
-use Rattle.std.specs.Prelude.{◌≡◌, ◌⊎◌, ℕ, Bool, true, false, not, filter, List, [], ◌∷◌, Contains}
+use Rattle.std.specs.Prelude.{◌≡◌, ◌⊎◌, ℕ, Bool, true, false, not, filter, if◌then◌else◌, List, [], ◌∷◌, Contains}
 use Rattle.ax_base.specs.declared.body.Body.{Body}
 use Rattle.ax_base.specs.Characters.{Chars}
 use Rattle.ax_base.specs.Document.{Document, body, has, children, has_id}
@@ -9,7 +9,7 @@ use Rattle.ax_dom.specs.declared.edit.Edit.{Edit}
 use Rattle.ax_dom.specs.declared.edit.Edit.TheVariants.{InsertElement, InsertText, Remove, Move, Set, Unset}
 use Rattle.ax_dom.specs.Among.{is_in}
 use Rattle.ax_dom.specs.Subtrees.{subtree}
-use Rattle.dom_ids.specs.References.{names_text}
+use Rattle.dom_ids.specs.References.{is_tie, names_text}
 
 -- One document comes from another where some nodes, with all that is below them, are hung anew or taken out.
 pub record Rehung (old now : Document) (top : ℕ → Bool) : Type 0 where
@@ -38,19 +38,19 @@ pub record Follows (old now : Document) (gone come moved : List ℕ) : Type 0 wh
   -- what is below one that is hung anew comes, or is moved
   pub is_below : (r n : ℕ) → top r ≡ true → has now r ≡ true → Contains (subtree now r) n → (is_in come n ≡ true) ⊎ (is_in moved n ≡ true)
 
--- the nodes that an edit takes out of a document, or out of what they were
+-- the nodes that an edit takes out of a document, or whose names or references it changes
 abbrev pub went : Document → Edit → List ℕ
 went old (Remove id) = subtree old id
-went old (Set id name value) = id ∷ []
-went old (Unset id name) = id ∷ []
+went old (Set id name value) = if is_tie name then id ∷ [] else []
+went old (Unset id name) = if is_tie name then id ∷ [] else []
 went old _ = []
 
--- the nodes that an edit puts in, or makes what they are
+-- the nodes that an edit puts in, or whose names or references it changes
 abbrev pub came : Edit → List ℕ
 came (InsertElement id into before tag attrs) = id ∷ []
 came (InsertText id into before chars) = id ∷ []
-came (Set id name value) = id ∷ []
-came (Unset id name) = id ∷ []
+came (Set id name value) = if is_tie name then id ∷ [] else []
+came (Unset id name) = if is_tie name then id ∷ [] else []
 came _ = []
 
 -- the nodes that an edit hangs elsewhere

@@ -29,6 +29,10 @@ abbrev pub label_for : Body → Option Chars
 label_for (Words chars runs) = None
 label_for (Element tag attrs frame) = if bytes_eq tag (codes "label") then value_of (codes "for") attrs else None
 
+-- whether an attribute is one by which elements are named, or name others
+abbrev pub is_tie : Chars → Bool
+is_tie name = bytes_eq name (codes "id") || (bytes_eq name (codes "for") || (bytes_eq name (codes "aria-labelledby") || bytes_eq name (codes "aria-describedby")))
+
 -- the texts by which a node is named, or a `label` names one: its `id`, and the `for` of a `label`
 abbrev pub carried : Body → List Chars
 carried b = listed (attr (codes "id") b) ++ listed (label_for b)

@@ -1,14 +1,15 @@
 //! The index after an edit.
-ghost use Rattle.std.specs.Prelude.{◌≡◌, [], ◌∷◌, None, IfOk};
+ghost use Rattle.std.specs.Prelude.{◌≡◌, [], ◌∷◌, None, IfOk, if◌then◌else◌};
 ghost use Rattle.ax_dom.specs.Changes.{edited};
 ghost use Rattle.ax_dom.specs.Refusals.{edit_cause};
 ghost use Rattle.dom_ids.specs.Hanging.{Follows, went, came, shifted};
 ghost use Rattle.dom_ids.specs.Index.{IsIndexOf};
+ghost use Rattle.dom_ids.specs.References.{is_tie};
 
 use crate::below::nodes_below;
 use crate::change::Change;
 use crate::index::IdIndex;
-use ax_base::{Ids, NoMemory, ObjId, Steps};
+use ax_base::{Ids, NoMemory, ObjId, Steps, Text};
 use ax_dom::{Dom, Edit};
 use std::alloc::Global;
 use std::sync::ledger::Ledger;
@@ -71,7 +72,7 @@ impl IdIndex {
     }
 }
 
-/// The nodes that an edit takes out of a document, or out of what they were.
+/// The nodes that an edit takes out of a document, or whose names or references it changes.
 fn went<L: Ledger>(
     alloc: Global,
     old: &Dom,
@@ -82,20 +83,20 @@ fn went<L: Ledger>(
 {
     match e {
         Edit::Remove(id) => nodes_below(alloc, old, *id, steps),
-        Edit::Set { id, .. } | Edit::Unset { id, .. } => lone(alloc, *id),
+        Edit::Set { id, name, .. } => tied(alloc, *id, name),
+        Edit::Unset { id, name } => tied(alloc, *id, name),
         _ => Ok(Ids::new(alloc)),
     }
 }
 
-/// The nodes that an edit puts in, or makes what they are.
+/// The nodes that an edit puts in, or whose names or references it changes.
 fn came(alloc: Global, e: &Edit) -> Result<Ids, NoMemory>
     ensures { IfOk result (λ ids. ids ≡ came e.now) }
 {
     match e {
-        Edit::InsertElement { id, .. }
-        | Edit::InsertText { id, .. }
-        | Edit::Set { id, .. }
-        | Edit::Unset { id, .. } => lone(alloc, *id),
+        Edit::InsertElement { id, .. } | Edit::InsertText { id, .. } => lone(alloc, *id),
+        Edit::Set { id, name, .. } => tied(alloc, *id, name),
+        Edit::Unset { id, name } => tied(alloc, *id, name),
         _ => Ok(Ids::new(alloc)),
     }
 }
@@ -113,6 +114,24 @@ fn shifted<L: Ledger>(
         Edit::Move { id, .. } => nodes_below(alloc, now, *id, steps),
         _ => Ok(Ids::new(alloc)),
     }
+}
+
+/// A node of which an attribute changes, if elements are named by it, or name others.
+fn tied(alloc: Global, id: ObjId, name: &Text) -> Result<Ids, NoMemory>
+    ensures { IfOk result (λ ids. ids ≡ (if is_tie name.now then id ∷ [] else [])) }
+{
+    if is_tie(name) {
+        lone(alloc, id)
+    } else {
+        Ok(Ids::new(alloc))
+    }
+}
+
+/// Whether an attribute is one by which elements are named, or name others.
+fn is_tie(name: &Text) -> bool
+    ensures { result ≡ is_tie name.now }
+{
+    name.is("id") || name.is("for") || name.is("aria-labelledby") || name.is("aria-describedby")
 }
 
 /// One node.

@@ -88,7 +88,7 @@ impl IdIndex {
         requires tree { IsTree dom.now }
         requires nodes { HaveTheirNodes dom.now self.old }
         ensures nodes { OnOk result (HaveTheirNodes dom.now self.new) }
-        ensures settled { OnOk result (AreSettled dom.now (λ x. option_map_or (λ w. bytes_eq x w.now) text false) self.old self.new) }
+        ensures settled { OnOk result (AreSettled dom.now (λ x. option_map_or (λ w. bytes_eq x w.now) text.entry false) self.old self.new) }
     {
         let Some(text) = text else {
             return Ok(());

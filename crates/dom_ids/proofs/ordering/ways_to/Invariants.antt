@@ -3,4 +3,4 @@ use Rattle.dom_ids.specs.Ordering.{AreWaysTo}
 use Rattle.dom_ids.proofs.ordering.ways_to.Given as goal
 
 abbrev pub invariant-loop-node : goal.invariant-loop-node
-invariant-loop-node g l = AreWaysTo l.dom (take l.node-index l.node-items) l.ways
+invariant-loop-node g l = AreWaysTo l.dom (take l.node-index l.nodes) l.ways
