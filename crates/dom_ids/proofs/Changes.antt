@@ -1,5 +1,5 @@
 -- What nodes that come or go change in the entry of a text.
-use Rattle.std.proofs.Common.{◌≡◌, ℕ, zero, suc, ◌+◌, ◌≤◌, ◌<◌, List, [], ◌∷◌, ◌++◌, take, get_or, length, Bool, true, false, cond, not, ◌||◌, ◌&&◌, Option, Some, None, refl, sym, ap, subst, ◌∙◌, arith, eqb}
+use Rattle.std.proofs.Common.{◌≡◌, ℕ, zero, suc, ◌+◌, ◌-◌, ◌≤◌, ◌<◌, List, [], ◌∷◌, ◌++◌, take, get_or, length, Bool, true, false, cond, not, ◌||◌, ◌&&◌, Option, Some, None, is_some, refl, sym, ap, subst, ◌∙◌, arith, eqb, append_assoc, append-nil}
 use Rattle.std.specs.Prelude.{bytes_eq}
 use Rattle.std.specs.List.Sorted.{IsStrictlyIncreasing}
 use Rattle.std.specs.List.{list_any}
@@ -7,7 +7,8 @@ use Rattle.std.specs.Option.{option_map_or}
 use Rattle.std.specs.Ordering.{nat_cmp}
 use Rattle.std.specs.BTreeSet.{insert_key}
 use Rattle.std.specs.Cmp.{nat_eq_equiv}
-use Rattle.std.proofs.lemmas.List.{take_all}
+use Rattle.std.proofs.lemmas.List.{take_all, take_more}
+use Rattle.std.proofs.lemmas.List.Folds.{list_any-append}
 use Rattle.std.proofs.lemmas.List.Kept.{IsStrictlyIncreasing-filter}
 use Rattle.std.proofs.lemmas.Map.Views.{list_any-from_Contains}
 use Rattle.std.proofs.lemmas.Slice.Eq.{bytes_eq-Decides}
@@ -19,7 +20,7 @@ use Rattle.ax_base.specs.AccessibleNames.{is_label_for}
 use Rattle.ax_base.proofs.Lookups.{finds_same, list_any-insert_key, rising-insert_key}
 use Rattle.ax_dom.specs.Among.{is_in}
 use Rattle.ax_dom.specs.Places.{without}
-use Rattle.ax_dom.specs.Slots.{cell_at}
+use Rattle.ax_dom.specs.Slots.{cell_at, cell_of}
 use Rattle.ax_dom.proofs.Halving.{key_there}
 use Rattle.ax_dom.proofs.Without.{without_cases, without_none}
 use Rattle.dom_ids.specs.declared.change.Change.{Change}
@@ -95,21 +96,70 @@ node_changed c n b x e0 e1 e2 e3 e4 p q rises one two three four names =
     labelled : e2 ≡ cond (is_label_for x b) (labelled_by c n (cond (has_id x b) (carried_by c n x e0) e0)) (cond (has_id x b) (carried_by c n x e0) e0)
     labelled = two ∙ ap (λ e. cond (is_label_for x b) (labelled_by c n e) e) one
 
--- a token and those that follow it
-pub tokens_changed : (c : Change) (x token : Chars) (more : List Chars) (most left : ℕ) (n : ℕ) (e mid new : Entry) → IsRising e → most ≡ suc left
-    → mid ≡ cond (bytes_eq x token) (named_by c n e) e → new ≡ cond (is_text_in (take left more) x) (named_by c n mid) mid → new ≡ cond (is_text_in (take most (token ∷ more)) x) (named_by c n e) e
-tokens_changed c x token more most left n e mid new rises is one two =
-    named_twice c (bytes_eq x token) (is_text_in (take left more) x) n e mid new rises one two
-    ∙ ap (λ k. cond (is_text_in (take k (token ∷ more)) x) (named_by c n e) e) (sym is)
+-- what the tokens so far have changed, where those that are left make the first eight whole
+pub record NamedSoFar (c : Change) (id : ℕ) (text rest : Chars) (k : ℕ) (old now : IdIndex) : Type 0 where
+  pub done : List Chars
+  pub whole : done ++ take (8 - k) (tokens rest) ≡ take 8 (tokens text)
+  pub value : (x : Chars) → entry_at now x ≡ cond (is_text_in done x) (named_by c id (entry_at old x)) (entry_at old x)
+
+pub none_named : (c : Change) (id : ℕ) (text : Chars) (index : IdIndex) → NamedSoFar c id text text 0 index index
+none_named c id text index = record { done = []; whole = refl; value = λ x. refl }
+
+-- where no token is left, or eight were read, all is done
+none_left : (c : Change) (id : ℕ) (text rest : Chars) (k : ℕ) (old now : IdIndex) → NamedSoFar c id text rest k old now → take (8 - k) (tokens rest) ≡ []
+    → (x : Chars) → entry_at now x ≡ cond (is_text_in (take 8 (tokens text)) x) (named_by c id (entry_at old x)) (entry_at old x)
+none_left c id text rest k old now far out x =
+    far.value x ∙ ap (λ ts. cond (is_text_in ts x) (named_by c id (entry_at old x)) (entry_at old x)) (sym (append-nil far.done) ∙ ap (λ l. far.done ++ l) (sym out) ∙ far.whole)
+
+pub named_at_end : (c : Change) (id : ℕ) (text rest : Chars) (k : ℕ) (old now : IdIndex) → NamedSoFar c id text rest k old now → tokens rest ≡ []
+    → (x : Chars) → entry_at now x ≡ cond (is_text_in (take 8 (tokens text)) x) (named_by c id (entry_at old x)) (entry_at old x)
+named_at_end c id text rest k old now far none = none_left c id text rest k old now far (ap (take (8 - k)) none ∙ take_none (8 - k))
+  where
+    take_none : (n : ℕ) → take {A = Chars} n [] ≡ []
+    take_none zero = refl
+    take_none (suc m) = refl
+
+pub named_at_eight : (c : Change) (id : ℕ) (text rest : Chars) (k : ℕ) (old now : IdIndex) → NamedSoFar c id text rest k old now → 8 ≤ k
+    → (x : Chars) → entry_at now x ≡ cond (is_text_in (take 8 (tokens text)) x) (named_by c id (entry_at old x)) (entry_at old x)
+named_at_eight c id text rest k old now far many = let none : 8 - k ≡ 0 = omega arith in none_left c id text rest k old now far (ap (λ n. take n (tokens rest)) none)
+
+pub one_named : (c : Change) (id : ℕ) (text rest token after : Chars) (k : ℕ) (old now new : IdIndex) → AreRising old → NamedSoFar c id text rest k old now → k < 8 → tokens rest ≡ token ∷ tokens after
+    → ((x : Chars) → entry_at new x ≡ cond (bytes_eq x token) (named_by c id (entry_at now x)) (entry_at now x)) → NamedSoFar c id text after (k + 1) old new
+one_named c id text rest token after k old now new rises far low is one =
+    let rest_is : 8 - k ≡ suc (8 - (k + 1)) = omega arith in
+    let given : take (8 - k) (tokens rest) ≡ token ∷ take (8 - (k + 1)) (tokens after) = (λ i. take (rest_is i) (is i)) in
+    record {
+      done = far.done ++ token ∷ [];
+      whole = append_assoc far.done (token ∷ []) (take (8 - (k + 1)) (tokens after)) ∙ ap (λ l. far.done ++ l) (sym given) ∙ far.whole;
+      value = λ x. named_twice c (is_text_in far.done x) (bytes_eq x token) id (entry_at old x) (entry_at now x) (entry_at new x) (rises x) (far.value x) (one x)
+          ∙ ap (λ b. cond b (named_by c id (entry_at old x)) (entry_at old x)) (more x);
+    }
+  where
+    lone : (a b : Bool) → (a || b) ≡ (a || (b || false))
+    lone true b = refl
+    lone false true = refl
+    lone false false = refl
+
+    more : (x : Chars) → (is_text_in far.done x || bytes_eq x token) ≡ is_text_in (far.done ++ token ∷ []) x
+    more x = lone (is_text_in far.done x) (bytes_eq x token) ∙ sym (list_any-append (bytes_eq x) far.done (token ∷ []))
 
 -- a node that is not there changes nothing
-pub none_changed : (c : Change) (d : Document) (n : ℕ) (x : Chars) (e : Entry) → None ≡ cell_at d n → e ≡ with_node c n (body d n) x e
-unfolding tokens
-none_changed c d n x e none = go (node d n) refl
+nothing_there : (d : Document) (n : ℕ) → None ≡ cell_at d n → (o : Option Node) → node d n ≡ o → o ≡ None
+nothing_there d n none None is = refl
+nothing_there d n none (Some v) is = absurd (no_value (none ∙ ap (λ o. cond (is_some o) (Some (cell_of d n)) None) is))
   where
-    go : (o : Option Node) → node d n ≡ o → e ≡ with_node c n (body d n) x e
-    go None is = ap (λ o. with_node c n (option_map_or (λ (v : Node). v.body) o (Words [] [])) x e) (sym is)
-    go (Some v) is = cc
+    no_value : {X : Type 0} {v : X} → None ≡ Some v → ⊥
+    no_value e = cc
+
+pub body_nowhere : (d : Document) (n : ℕ) → None ≡ cell_at d n → body d n ≡ Words [] []
+body_nowhere d n none = ap (λ o. option_map_or (λ (v : Node). v.body) o (Words [] [])) (nothing_there d n none (node d n) refl)
+
+nothing_changed : (c : Change) (n : ℕ) (x : Chars) (e : Entry) → e ≡ with_node c n (Words [] []) x e
+unfolding tokens
+nothing_changed c n x e = refl
+
+pub none_changed : (c : Change) (d : Document) (n : ℕ) (x : Chars) (e : Entry) → None ≡ cell_at d n → e ≡ with_node c n (body d n) x e
+none_changed c d n x e none = nothing_changed c n x e ∙ ap (λ b. with_node c n b x e) (sym (body_nowhere d n none))
 
 -- what a loop over nodes has changed
 pub record ChangedSoFar (c : Change) (d : Document) (ns : List ℕ) (old now : IdIndex) : Type 0 where
@@ -121,9 +171,7 @@ behind c d [] n x e = refl
 behind c d (m ∷ ns) n x e = behind c d ns n x (with_node c m (body d m) x e)
 
 pub one_more : (ns : List ℕ) (i n : ℕ) → i < length ns → n ≡ get_or ns i n → take (i + 1) ns ≡ take i ns ++ n ∷ []
-one_more [] i n low is = absurd (omega arith)
-one_more (m ∷ ns) zero n low is = ap (λ k. k ∷ []) (sym is)
-one_more (m ∷ ns) (suc i) n low is = ap (λ l. m ∷ l) (one_more ns i n (omega arith) is)
+one_more ns i n low is = take_more ns i n low ∙ ap (λ y. take i ns ++ y ∷ []) (sym is)
 
 pub more_changed : (c : Change) (d : Document) (ns : List ℕ) (old now new : IdIndex) (i n : ℕ) → i < length ns → n ≡ get_or ns i n → ChangedSoFar c d (take i ns) old now → AreRising new
     → ((x : Chars) → entry_at new x ≡ with_node c n (body d n) x (entry_at now x)) → ChangedSoFar c d (take (i + 1) ns) old new
@@ -144,17 +192,6 @@ changed old mid new text f entry is others put x b test = put x ∙ go (bytes_eq
     go : (c : Bool) → bytes_eq x text ≡ c → cond c entry (entry_at mid x) ≡ cond c (f x (entry_at old x)) (entry_at old x)
     go true on = is ∙ (let same : x ≡ text = same_bytes x text on in ap (λ y. f y (entry_at old y)) (sym same))
     go false off = others x off
-
--- no tokens refer to nothing
-pub no_tokens : (c : Change) (most : ℕ) (ts : List Chars) (x : Chars) (n : ℕ) (e : Entry) → ts ≡ [] → e ≡ cond (is_text_in (take most ts) x) (named_by c n e) e
-no_tokens c most ts x n e none = go most ∙ ap (λ l. cond (is_text_in (take most l) x) (named_by c n e) e) (sym none)
-  where
-    go : (k : ℕ) → e ≡ cond (is_text_in (take k []) x) (named_by c n e) e
-    go zero = refl
-    go (suc k) = refl
-
-pub none_taken : (c : Change) (most : ℕ) (ts : List Chars) (x : Chars) (n : ℕ) (e : Entry) → most ≡ 0 → e ≡ cond (is_text_in (take most ts) x) (named_by c n e) e
-none_taken c most ts x n e none = ap (λ k. cond (is_text_in (take k ts) x) (named_by c n e) e) (sym none)
 
 -- nothing rises
 pub none_rising : (index : IdIndex) → ((x : Chars) → entry_at index x ≡ no_entry) → AreRising index

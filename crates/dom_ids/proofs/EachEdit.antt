@@ -1,10 +1,10 @@
 -- What each edit that nothing refuses changes.
-use Rattle.std.proofs.Common.{◌≡◌, ◌≢◌, ◌⊎◌, inl, inr, ℕ, zero, suc, ◌≤◌, ◌-◌, ◌+◌, List, [], ◌∷◌, ◌++◌, Bool, true, false, cond, not, ◌||◌, ◌&&◌, take, Option, Some, None, is_some, Contains, refl, sym, ap, subst, ◌∙◌, arith, eqb}
-use Rattle.std.specs.Prelude.{filter, nat_eq, nat_lt, flat_map, bytes_eq, codes, unwrap_or}
+use Rattle.std.proofs.Common.{◌≡◌, ◌≢◌, ◌⊎◌, inl, inr, ℕ, zero, suc, ◌≤◌, ◌-◌, ◌+◌, List, [], ◌∷◌, ◌++◌, length, Bool, true, false, cond, not, ◌||◌, ◌&&◌, take, Option, Some, None, is_some, Contains, refl, sym, ap, subst, ◌∙◌, arith, eqb}
+use Rattle.std.specs.Prelude.{filter, nat_eq, nat_lt, nat_le, flat_map, bytes_eq, codes, unwrap_or}
 use Rattle.std.specs.List.{list_any}
 use Rattle.std.specs.Option.{option_map_or}
 use Rattle.std.specs.Cmp.{nat_eq_equiv}
-use Rattle.std.proofs.lemmas.Bool.{false≢true, or_parts, ltb-false, eqb-true, eq-eqb}
+use Rattle.std.proofs.lemmas.Bool.{false≢true, or_parts, ltb-false, leb-false, eqb-true, eq-eqb}
 use Rattle.std.proofs.lemmas.Bool.Decides.{eqb_tells}
 use Rattle.std.proofs.lemmas.Map.Views.{list_any-from_Contains}
 use Rattle.std.proofs.lemmas.Slice.Eq.{bytes_eq-Decides}
@@ -15,9 +15,10 @@ use Rattle.ax_base.specs.declared.body.Body.TheVariants.{Element, Words}
 use Rattle.ax_base.specs.declared.rect.Rect.{Rect}
 use Rattle.ax_base.specs.declared.rect.Run.{Run}
 use Rattle.ax_base.specs.Characters.{Chars, tokens}
-use Rattle.ax_base.specs.Document.{Document, Node, node, root, spot, preorder, body, has, children, depth, lineage, is_text, has_id, IsChild}
+use Rattle.ax_base.specs.Document.{Document, Node, node, root, spot, preorder, body, has, ids, children, depth, lineage, is_text, has_id, IsChild}
 use Rattle.ax_base.specs.AccessibleNames.{is_label_for}
 use Rattle.ax_base.specs.Rects.{HasRectsWithin}
+use Rattle.ax_base.specs.Runs.{KeepsRuns}
 use Rattle.ax_base.specs.Texts.{IsFitting}
 use Rattle.ax_base.specs.Trees.{IsTree}
 use Rattle.ax_base.proofs.Below.{from_below_same}
@@ -38,6 +39,7 @@ use Rattle.ax_dom.specs.Subtrees.{subtree, is_within}
 use Rattle.ax_dom.specs.Used.{is_used}
 use Rattle.ax_dom.proofs.Amended.{shape_amended, body_here, body_apart, kind_stays}
 use Rattle.ax_dom.proofs.Bounded.{no_runs_within, no_frame_within}
+use Rattle.ax_dom.proofs.Few.{few_nodes}
 use Rattle.ax_dom.proofs.Fitting.{text_fits}
 use Rattle.ax_dom.proofs.Inserts.{children_is, old_apart, has_cases, body_kept}
 use Rattle.ax_dom.proofs.Moved.{children_unhung, children_moved, has_moved, body_moved}
@@ -170,21 +172,21 @@ follows_removed d t n apart u = record {
     gone q went false off = refl
 
 -- an insert hangs a new node
-module _ (d : Document) (t : IsTree d) (id into : ℕ) (before : Option ℕ) (b : Body) (new : has d id ≡ false) (old : has d into ≡ true) (low : t.level into ≤ 63) (element : is_text (body d into) ≡ false) (fit : IsFitting b) (near : HasRectsWithin b)
+module _ (d : Document) (t : IsTree d) (id into : ℕ) (before : Option ℕ) (b : Body) (new : has d id ≡ false) (old : has d into ≡ true) (low : t.level into ≤ 63) (element : is_text (body d into) ≡ false) (room : length (ids d) ≤ 65536) (fit : IsFitting b) (right : KeepsRuns b) (near : HasRectsWithin b)
     (u : IsTree (inserted d id into before b)) where
   abbrev more : Document
   more = inserted d id into before b
 
   same_list : (q : ℕ) → has d q ≡ true → into ≢ q → children more q ≡ children d q
   same_list q was other =
-      children_is d t id into before b new old low element fit near q
-      ∙ (λ i. cond (old_apart d t id into before b new old low element fit near q was i) [] (cond (no_finds into q other i) (placed before id (children d into)) (children d q)))
+      children_is d t id into before b new old low element room fit right near q
+      ∙ (λ i. cond (old_apart d t id into before b new old low element room fit right near q was i) [] (cond (no_finds into q other i) (placed before id (children d into)) (children d q)))
 
   hung_same : (q : ℕ) → has d q ≡ true → without id (children d q) ≡ without id (children more q)
   hung_same q was = elim (eqb_tells into q) [
     | inl (_, same) ↦ sym (
-        ap (without id) (children_is d t id into before b new old low element fit near q
-        ∙ (λ i. cond (old_apart d t id into before b new old low element fit near q was i) [] (cond (finds_same into q same i) (placed before id (children d into)) (children d q))))
+        ap (without id) (children_is d t id into before b new old low element room fit right near q
+        ∙ (λ i. cond (old_apart d t id into before b new old low element room fit right near q was i) [] (cond (finds_same into q same i) (placed before id (children d into)) (children d q))))
         ∙ without_placed before id (children d into) ∙ ap (λ k. without id (children d k)) same)
     | inr (_, other) ↦ ap (without id) (sym (same_list q was other))
   ]
@@ -193,7 +195,7 @@ module _ (d : Document) (t : IsTree d) (id into : ℕ) (before : Option ℕ) (b 
   rehung_inserted = record {
     was_tree = t;
     is_tree = u;
-    was = λ q still off. elim (has_cases d t id into before b new old low element fit near q still) [
+    was = λ q still off. elim (has_cases d t id into before b new old low element room fit right near q still) [
       | inl same ↦ absurd (false≢true (sym off ∙ eq-eqb q id same))
       | inr there ↦ there
     ];
@@ -207,7 +209,7 @@ module _ (d : Document) (t : IsTree d) (id into : ℕ) (before : Option ℕ) (b 
   ]
     where
       bare : children more id ≡ []
-      bare = children_is d t id into before b new old low element fit near id ∙ (λ i. cond (finds_same id id refl i) [] (cond (finds into id) (placed before id (children d into)) (children d id)))
+      bare = children_is d t id into before b new old low element room fit right near id ∙ (λ i. cond (finds_same id id refl i) [] (cond (finds into id) (placed before id (children d into)) (children d id)))
 
       nothing : Contains (flat_map (subtree more) (children more id)) q → ⊥
       nothing below = let e : Contains [] q = subst (λ l. Contains (flat_map (subtree more) l) q) bare below in omega (arith, e)
@@ -224,14 +226,14 @@ module _ (d : Document) (t : IsTree d) (id into : ℕ) (before : Option ℕ) (b 
   }
     where
       lost_too : (q : ℕ) → is_in (id ∷ []) q ≡ false → has d q ≡ false → (b : Bool) → has more q ≡ b → b ≡ false
-      lost_too q other off true still = elim (has_cases d t id into before b new old low element fit near q still) [
+      lost_too q other off true still = elim (has_cases d t id into before b new old low element room fit right near q still) [
         | inl same ↦ absurd (lone_apart id q other (sym same))
         | inr there ↦ absurd (false≢true (sym off ∙ there))
       ]
       lost_too q other off false lost = refl
 
       same_body : (q : ℕ) → is_in (id ∷ []) q ≡ false → (b : Bool) → has d q ≡ b → body more q ≡ body d q
-      same_body q other true there = body_kept d t id into before b new old low element fit near q there
+      same_body q other true there = body_kept d t id into before b new old low element room fit right near q there
       same_body q other false off = body_of_none more q (lost_too q other off (has more q) refl) ∙ sym (body_of_none d q off)
 
 -- a move hangs a node elsewhere
@@ -409,19 +411,22 @@ module _ (d : Document) (t : IsTree d) (all_inserted : (n : ℕ) → has d n ≡
   low_into : (into : ℕ) → has d into ≡ true → nat_lt 64 (depth d into + 1) ≡ false → t.level into ≤ 63
   low_into into there low = let a = ltb-false 64 (depth d into + 1) low in let b = depth-level d t into there in omega arith
 
+  room_left : nat_le 65536 (length d.used) ≡ false → length (ids d) ≤ 65536
+  room_left off = let few = few_nodes d t.rising all_inserted in let more = leb-false 65536 (length d.used) off in omega arith
+
   insert_element : (id into : ℕ) (before : Option ℕ) (tag : Chars) (attrs : List Attr) → edit_cause d (InsertElement id into before tag attrs) ≡ None → IsTree (edited d (InsertElement id into before tag attrs))
       → Follows d (edited d (InsertElement id into before tag attrs)) [] (id ∷ []) []
   insert_element id into before tag attrs none u =
       let free = free_from d (InsertElement id into before tag attrs) none in
       let there = shown (has d into) free.known in
-      follows_inserted d t id into before (Element tag attrs no_frame) (fresh_lacks id free.fresh) there (low_into into there free.low) free.element tt no_frame_within u
+      follows_inserted d t id into before (Element tag attrs no_frame) (fresh_lacks id free.fresh) there (low_into into there free.low) free.element (room_left free.few) tt tt no_frame_within u
 
   insert_text : (id into : ℕ) (before : Option ℕ) (chars : Chars) → edit_cause d (InsertText id into before chars) ≡ None → IsTree (edited d (InsertText id into before chars))
       → Follows d (edited d (InsertText id into before chars)) [] (id ∷ []) []
   insert_text id into before chars none u =
       let free = free_from d (InsertText id into before chars) none in
       let there = shown (has d into) free.known in
-      follows_inserted d t id into before (Words chars []) (fresh_lacks id free.fresh) there (low_into into there free.low) free.element (text_fits chars free.short) no_runs_within u
+      follows_inserted d t id into before (Words chars []) (fresh_lacks id free.fresh) there (low_into into there free.low) free.element (room_left free.few) (text_fits chars free.short) refl no_runs_within u
 
   remove : (id : ℕ) → edit_cause d (Remove id) ≡ None → IsTree (edited d (Remove id)) → Follows d (edited d (Remove id)) (subtree d id) [] []
   remove id none u = let free = free_from d (Remove id) none in follows_removed d t id (λ same. false≢true (sym free.no_root ∙ eq-eqb id root same)) u

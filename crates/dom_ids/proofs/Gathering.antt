@@ -15,6 +15,7 @@ use Rattle.ax_dom.specs.Subtrees.{subtree}
 use Rattle.ax_dom.proofs.Copied.{in_order}
 use Rattle.ax_dom.proofs.Subtrees.{subtree_unfolds, within_parent, subtree_once}
 use Rattle.dom_ids.specs.Ordering.{AreWaysTo, in_order as ordered}
+use Rattle.dom_ids.proofs.Changes.{one_more}
 use Rattle.dom_ids.proofs.Staying.{filter_both, filter_no}
 
 -- no way leads to what has none of the nodes
@@ -38,10 +39,9 @@ none_below d t ns ways far n off = filter_no (is_in ns) (subtree d n) (λ q insi
 pub nothing_gathered : (d : Document) (t : IsTree d) (ns ways out : List ℕ) → AreWaysTo d ns ways → (n : ℕ) → false ≡ is_in ways n → out ≡ out ++ filter (is_in ns) (subtree d n)
 nothing_gathered d t ns ways out far n off = sym (append-nil out) ∙ ap (λ l. out ++ l) (sym (none_below d t ns ways far n off))
 
-one_more_joined : (f : ℕ → List ℕ) (cs : List ℕ) (i x : ℕ) → i < length cs → x ≡ get_or cs i x → flat_map f (take (i + 1) cs) ≡ flat_map f (take i cs) ++ f x
-one_more_joined f [] i x low is = absurd (omega arith)
-one_more_joined f (c ∷ cs) zero x low is = append-nil (f c) ∙ ap f (sym is)
-one_more_joined f (c ∷ cs) (suc i) x low is = ap (λ l. f c ++ l) (one_more_joined f cs i x (omega arith) is) ∙ sym (append_assoc (f c) (flat_map f (take i cs)) (f x))
+joined_more : (f : ℕ → List ℕ) (xs : List ℕ) (x : ℕ) → flat_map f (xs ++ x ∷ []) ≡ flat_map f xs ++ f x
+joined_more f [] x = append-nil (f x)
+joined_more f (y ∷ ys) x = ap (λ l. f y ++ l) (joined_more f ys x) ∙ sym (append_assoc (f y) (flat_map f ys) (f x))
 
 -- what was gathered below a node and its children so far, one more child, and all of them
 pub more_gathered : (d : Document) (ns old out more : List ℕ) (n i x : ℕ) (cs : List ℕ) → i < length cs → x ≡ get_or cs i x → out ≡ old ++ filter (is_in ns) (n ∷ flat_map (subtree d) (take i cs)) → more ≡ out ++ filter (is_in ns) (subtree d x)
@@ -49,7 +49,7 @@ pub more_gathered : (d : Document) (ns old out more : List ℕ) (n i x : ℕ) (c
 more_gathered d ns old out more n i x cs low is far adds =
     adds ∙ ap (λ l. l ++ filter (is_in ns) (subtree d x)) far
     ∙ append_assoc old (filter (is_in ns) (n ∷ flat_map (subtree d) (take i cs))) (filter (is_in ns) (subtree d x))
-    ∙ ap (λ l. old ++ l) (sym (filter_both (is_in ns) (n ∷ flat_map (subtree d) (take i cs)) (subtree d x)) ∙ ap (λ l. filter (is_in ns) (n ∷ l)) (sym (one_more_joined (subtree d) cs i x low is)))
+    ∙ ap (λ l. old ++ l) (sym (filter_both (is_in ns) (n ∷ flat_map (subtree d) (take i cs)) (subtree d x)) ∙ ap (λ l. filter (is_in ns) (n ∷ l)) (sym (ap (flat_map (subtree d)) (one_more cs i x low is) ∙ joined_more (subtree d) (take i cs) x)))
 
 pub all_gathered : (d : Document) (t : IsTree d) (ns old out : List ℕ) (n i : ℕ) (cs : List ℕ) → cs ≡ children d n → length cs ≤ i → out ≡ old ++ filter (is_in ns) (n ∷ flat_map (subtree d) (take i cs)) → out ≡ old ++ filter (is_in ns) (subtree d n)
 all_gathered d t ns old out n i cs same past far =

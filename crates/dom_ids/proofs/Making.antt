@@ -58,7 +58,7 @@ abbrev pub lined : Change → List ℕ → ℕ → List ℕ
 lined Comes ns n = ns ++ n ∷ []
 lined Goes ns n = without n ns
 
-abbrev firsts : Change → Option ℕ → Option ℕ → Option ℕ
+abbrev pub firsts : Change → Option ℕ → Option ℕ → Option ℕ
 firsts Comes o p = option_or o p
 firsts Goes o p = o
 
@@ -185,6 +185,10 @@ and_all : (m : Bool) → m ≡ (m && true)
 and_all true = refl
 and_all false = refl
 
+and_false : (m : Bool) → (m && false) ≡ false
+and_false true = refl
+and_false false = refl
+
 mem_behind : (ns : List ℕ) (n q : ℕ) → mem (ns ++ n ∷ []) q ≡ (mem ns q || finds q n)
 mem_behind [] n q = or_none (finds q n)
 mem_behind (m ∷ ns) n q = ap (λ b. finds q m || b) (mem_behind ns n q) ∙ go (finds q m)
@@ -195,28 +199,21 @@ mem_behind (m ∷ ns) n q = ap (λ b. finds q m || b) (mem_behind ns n q) ∙ go
 
 mem_without : (ns : List ℕ) (n q : ℕ) → mem (without n ns) q ≡ (mem ns q && not (finds q n))
 mem_without [] n q = refl
-mem_without (m ∷ ns) n q = go (eqb m n) refl
+mem_without (m ∷ ns) n q = go (eqb m n) refl (mem_without ns n q)
   where
-    tail : mem (without n ns) q ≡ (mem ns q && not (finds q n))
-    tail = mem_without ns n q
-
     here : (b d : Bool) → finds q m ≡ b → finds q n ≡ d → m ≢ n → (b || (mem ns q && not d)) ≡ ((b || mem ns q) && not d)
     here true true is same apart = absurd (apart (sym (found_is q m is) ∙ found_is q n same))
     here true false is same apart = refl
     here false d is same apart = refl
 
     gone : (b d : Bool) → finds q m ≡ b → finds q n ≡ d → m ≡ n → (mem ns q && not d) ≡ ((b || mem ns q) && not d)
-    gone true true is same at = go_on (mem ns q)
-      where
-        go_on : (k : Bool) → (k && false) ≡ false
-        go_on true = refl
-        go_on false = refl
+    gone true true is same at = and_false (mem ns q)
     gone true false is same at = absurd (false≢true (sym same ∙ finds_same q n (found_is q m is ∙ at)))
     gone false d is same at = refl
 
-    go : (b : Bool) → eqb m n ≡ b → mem (cond (not b) (m ∷ without n ns) (without n ns)) q ≡ ((finds q m || mem ns q) && not (finds q n))
-    go true is = tail ∙ gone (finds q m) (finds q n) refl refl (eqb-true m n is)
-    go false is = ap (λ b. finds q m || b) tail ∙ here (finds q m) (finds q n) refl refl (λ same. false≢true (sym is ∙ eq-eqb m n same))
+    go : (b : Bool) → eqb m n ≡ b → mem (without n ns) q ≡ (mem ns q && not (finds q n)) → mem (cond (not b) (m ∷ without n ns) (without n ns)) q ≡ ((finds q m || mem ns q) && not (finds q n))
+    go true is tail = tail ∙ gone (finds q m) (finds q n) refl refl (eqb-true m n is)
+    go false is tail = ap (λ b. finds q m || b) tail ∙ here (finds q m) (finds q n) refl refl (λ same. false≢true (sym is ∙ eq-eqb m n same))
 
 pub mem_risen : (c : Change) (ns : List ℕ) (n q : ℕ) → mem (risen c ns n) q ≡ after_change c (mem ns q) (finds q n)
 mem_risen Comes ns n q = sym (list_any-insert_key q n ns) ∙ or_turned (finds q n) (mem ns q)
@@ -318,11 +315,7 @@ module _ (d : Document) (x : Chars) where
       where
         whole : (q : ℕ) (b : Bool) → p (body d q) ≡ b → (mem (order d) q && b) ≡ b
         whole q true on = ap (λ k. k && true) (mem_from (order d) q (in_order d t (t.level q) q (omega arith) (known_by d p fails q on)))
-        whole q false off = none_of (mem (order d) q)
-          where
-            none_of : (k : Bool) → (k && false) ≡ false
-            none_of true = refl
-            none_of false = refl
+        whole q false off = and_false (mem (order d) q)
 
         tells_all : (q : ℕ) → mem (π new) q ≡ p (body d q)
         tells_all q = ap (λ k. mem (π k) q) is ∙ mem_all Comes (order d) e q ∙ ap (λ l. mem l q || (mem (order d) q && p (body d q))) none ∙ whole q (p (body d q)) refl

@@ -20,23 +20,20 @@ use Rattle.dom_ids.specs.declared.change.Change.{Change}
 use Rattle.dom_ids.specs.declared.change.Change.TheVariants.{Comes, Goes}
 use Rattle.dom_ids.specs.declared.index.Entry.{Entry}
 use Rattle.dom_ids.specs.declared.index.IdIndex.{IdIndex}
-use Rattle.dom_ids.specs.Changing.{with_node, with_nodes, AreRising}
+use Rattle.dom_ids.specs.Changing.{unless_empty, with_node, with_nodes, AreRising}
 use Rattle.dom_ids.specs.Hanging.{Follows}
 use Rattle.dom_ids.specs.Index.{carriers, namers, labels, entry_of, entry_at, IsIndexOf}
 use Rattle.dom_ids.specs.References.{names_text}
 use Rattle.dom_ids.specs.Settling.{is_carried, is_carried_among, HasItsNodes, HaveTheirNodes, AreSettled}
-use Rattle.dom_ids.proofs.Making.{known_by, names_nothing, risen, lined, after_change, first_one, carriers_one, labels_one, namers_one, mem_risen, mem_lined, mem_all, rising_is}
+use Rattle.dom_ids.proofs.Changes.{body_nowhere}
+use Rattle.dom_ids.proofs.Making.{firsts, known_by, names_nothing, risen, lined, after_change, first_one, carriers_one, labels_one, namers_one, mem_risen, mem_lined, mem_all, rising_is}
 use Rattle.dom_ids.proofs.Settled.{ids_tell, order_tells, then_settled}
 use Rattle.dom_ids.proofs.Staying.{gathered_same, first_same}
 use Rattle.dom_ids.proofs.Tests.{mem, is_in_mem}
 
 -- a node that is not there carries nothing
 pub none_carried : (d : Document) (n : ℕ) → None ≡ cell_at d n → (x : Chars) → is_carried x (body d n) ≡ false
-none_carried d n none x = go (node d n) refl
-  where
-    go : (o : Option Node) → node d n ≡ o → is_carried x (body d n) ≡ false
-    go None is = ap (λ o. is_carried x (option_map_or (λ (v : Node). v.body) o (Words [] []))) is
-    go (Some v) is = cc
+none_carried d n none x = ap (is_carried x) (body_nowhere d n none)
 
 -- an index of a document rises
 pub index_rises : (d : Document) → IsTree d → (index : IdIndex) → IsIndexOf d index → AreRising index
@@ -57,7 +54,7 @@ module _ (d : Document) (x : Chars) where
   first_stays c [] e off = refl
   first_stays c (n ∷ ns) e off =
       let p = apart n ns off in
-      first_stays c ns (with_node c n (body d n) x e) p.2 ∙ first_one c n (body d n) x e ∙ (λ i. cond (p.0 i) _ e.first)
+      first_stays c ns (with_node c n (body d n) x e) p.2 ∙ first_one c n (body d n) x e ∙ (λ i. cond (p.0 i) (firsts c e.first (unless_empty x (Some n))) e.first)
 
   labels_stay : (c : Change) (ns : List ℕ) (e : Entry) → is_carried_among d ns x ≡ false → (with_nodes c d ns x e).labels ≡ e.labels
   labels_stay c [] e off = refl
@@ -68,14 +65,14 @@ module _ (d : Document) (x : Chars) where
   -- none of some carries the text
   pub not_carried : (ns : List ℕ) (n : ℕ) → is_carried_among d ns x ≡ false → is_in ns n ≡ true → (has_id x (body d n) ≡ false) × (is_label_for x (body d n) ≡ false)
   not_carried [] n off on = cc
-  not_carried (m ∷ ns) n off on = go (nat_eq n m) refl on
+  not_carried (m ∷ ns) n off on = go (nat_eq n m) refl on (λ more. not_carried ns n (apart m ns off).2 more)
     where
       p : (has_id x (body d m) ≡ false) × (is_label_for x (body d m) ≡ false) × (is_carried_among d ns x ≡ false)
       p = apart m ns off
 
-      go : (b : Bool) → nat_eq n m ≡ b → (b || is_in ns n) ≡ true → (has_id x (body d n) ≡ false) × (is_label_for x (body d n) ≡ false)
-      go true is on = let same : n ≡ m = eqb-true n m is in (ap (λ k. has_id x (body d k)) same ∙ p.0, ap (λ k. is_label_for x (body d k)) same ∙ p.1)
-      go false is on = not_carried ns n p.2 on
+      go : (b : Bool) → nat_eq n m ≡ b → (b || is_in ns n) ≡ true → (is_in ns n ≡ true → (has_id x (body d n) ≡ false) × (is_label_for x (body d n) ≡ false)) → (has_id x (body d n) ≡ false) × (is_label_for x (body d n) ≡ false)
+      go true is on rest = let same : n ≡ m = eqb-true n m is in (ap (λ k. has_id x (body d k)) same ∙ p.0, ap (λ k. is_label_for x (body d k)) same ∙ p.1)
+      go false is on rest = rest on
 
 module _ (old now : Document) (gone come moved : List ℕ) (f : Follows old now gone come moved) (x : Chars) where
   -- what is there after nodes went and came

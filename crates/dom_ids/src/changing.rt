@@ -72,8 +72,8 @@ impl IdIndex {
     {
         self.change_carrier(alloc, change, id, node)?;
         self.change_label(alloc, change, id, node)?;
-        self.change_namer(alloc, change, id, text_of(node, "aria-labelledby"), MOST)?;
-        self.change_namer(alloc, change, id, text_of(node, "aria-describedby"), MOST)?;
+        self.change_namer(alloc, change, id, text_of(node, "aria-labelledby"))?;
+        self.change_namer(alloc, change, id, text_of(node, "aria-describedby"))?;
         Ok(())
     }
 
@@ -119,27 +119,26 @@ impl IdIndex {
         Ok(())
     }
 
-    /// An element comes to those that refer to the first tokens of a text, up to so many of them, or goes.
+    /// An element comes to those that refer to the first eight tokens of a text, or goes.
     fn change_namer(
         &mut self,
         alloc: Global,
         change: Change,
         id: ObjId,
         text: &str,
-        most: u8,
     ) -> Result<(), NoMemory>
         requires rising { AreRising self.old }
         ensures rising { OnOk result (AreRising self.new) }
-        ensures value { OnOk result ((x : Chars) → entry_at self.new x ≡ (if is_text_in (take most (tokens text.now)) x then named_by change id (entry_at self.old x) else entry_at self.old x)) }
+        ensures value { OnOk result ((x : Chars) → entry_at self.new x ≡ (if is_text_in (take 8 (tokens text.now)) x then named_by change id (entry_at self.old x) else entry_at self.old x)) }
     {
-        if most == 0 {
-            return Ok(());
+        let mut rest = text;
+        for _ in 0..MOST {
+            let Some((token, after)) = first_token(rest) else {
+                return Ok(());
+            };
+            self.change_name(alloc, change, id, token)?;
+            rest = after;
         }
-        let Some((token, rest)) = first_token(text) else {
-            return Ok(());
-        };
-        self.change_name(alloc, change, id, token)?;
-        self.change_namer(alloc, change, id, rest, most - 1)?;
         Ok(())
     }
 

@@ -4,8 +4,8 @@ use Rattle.ax_dom.proofs.Walks.{child_of, descends}
 use Rattle.dom_ids.proofs.Gathering.{nothing_gathered, more_gathered, all_gathered}
 use Rattle.dom_ids.proofs.ordering.+gather.Goals as goal
 
-pub returns-then : goal.returns-then
-returns-then g t c = nothing_gathered c.args.dom.now c.requires.tree c.args.wanted.now c.args.ways.now c.args.out.now c.requires.ways c.args.id c.if-has.ensures
+pub returns-then-not-has : goal.returns-then-not-has
+returns-then-not-has g t c = nothing_gathered c.args.dom.now c.requires.tree c.args.wanted.now c.args.ways.now c.args.out.now c.requires.ways c.args.id c.if-has.ensures
 
 pub gather-requires : goal.gather-requires
 gather-requires g t c κs within =

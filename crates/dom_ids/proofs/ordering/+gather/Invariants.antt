@@ -8,8 +8,8 @@ use Rattle.dom_ids.proofs.ordering.+gather.Given as goal
 
 -- how many levels may still be below the node
 abbrev pub decreases-gather : goal.decreases-gather
-decreases-gather g l = 65 - depth l.dom l.id
+decreases-gather g l = 65 - depth l.dom.now l.id
 
 -- the node, and what is below the children so far, were gathered
 abbrev pub invariant-loop-child : goal.invariant-loop-child
-invariant-loop-child g l = l.out ≡ l.initial.out ++ filter (is_in l.wanted) (l.id ∷ flat_map (subtree l.dom) (take l.child-index l.child-items))
+invariant-loop-child g l = l.out ≡ l.fn.out ++ filter (is_in l.wanted) (l.fn.id ∷ flat_map (subtree l.dom) (take l.child-index l.child-items))

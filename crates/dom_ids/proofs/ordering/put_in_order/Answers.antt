@@ -3,5 +3,5 @@ use Rattle.dom_ids.specs.Ordering.{in_order}
 use Rattle.dom_ids.proofs.Gathering.{few_in_order}
 use Rattle.dom_ids.proofs.ordering.put_in_order.Goals as goal
 
-pub returns-then : goal.returns-then
-returns-then g c = few_in_order c.args.dom.now c.requires.tree c.args.ids.now (omega arith) c.requires.known
+pub returns-then-as_slice-le1 : goal.returns-then-as_slice-le1
+returns-then-as_slice-le1 g c = few_in_order c.args.dom.now c.requires.tree c.args.ids.now (omega arith) c.requires.known
