@@ -15,9 +15,10 @@ use Rattle.std.proofs.lemmas.Slice.Eq.{bytes_eq-Decides}
 use Rattle.ax_base.specs.declared.body.Body.{Body}
 use Rattle.ax_base.specs.declared.body.Body.TheVariants.{Words}
 use Rattle.ax_base.specs.Characters.{Chars, tokens}
-use Rattle.ax_base.specs.Document.{Document, Node, node, body, has_id}
+use Rattle.ax_base.specs.Document.{Document, Node, node, has, body, has_id}
 use Rattle.ax_base.specs.AccessibleNames.{is_label_for}
 use Rattle.ax_base.proofs.Lookups.{finds_same, list_any-insert_key, rising-insert_key}
+use Rattle.ax_dom.specs.declared.cell.Cell.{Cell}
 use Rattle.ax_dom.specs.Among.{is_in}
 use Rattle.ax_dom.specs.Places.{without}
 use Rattle.ax_dom.specs.Slots.{cell_at, cell_of}
@@ -153,6 +154,14 @@ nothing_there d n none (Some v) is = absurd (no_value (none ∙ ap (λ o. cond (
 
 pub body_nowhere : (d : Document) (n : ℕ) → None ≡ cell_at d n → body d n ≡ Words [] []
 body_nowhere d n none = ap (λ o. option_map_or (λ (v : Node). v.body) o (Words [] [])) (nothing_there d n none (node d n) refl)
+
+-- the body of a cell is that of its node
+pub cell_body : (d : Document) (n : ℕ) (cell : Cell) → Some cell ≡ cell_at d n → cell.body ≡ body d n
+cell_body d n cell is = ap (λ o. option_map_or (λ (c : Cell). c.body) o (body d n)) is ∙ go (has d n)
+  where
+    go : (b : Bool) → option_map_or (λ (c : Cell). c.body) (cond b (Some (cell_of d n)) None) (body d n) ≡ body d n
+    go true = refl
+    go false = refl
 
 nothing_changed : (c : Change) (n : ℕ) (x : Chars) (e : Entry) → e ≡ with_node c n (Words [] []) x e
 unfolding tokens

@@ -5,7 +5,7 @@ use Rattle.dom_ids.proofs.Gathering.{nothing_gathered, more_gathered, all_gather
 use Rattle.dom_ids.proofs.ordering.+gather.Goals as goal
 
 pub returns-then-not-has : goal.returns-then-not-has
-returns-then-not-has g t c = nothing_gathered c.args.dom.now c.requires.tree c.args.wanted.now c.args.ways.now c.args.out.now c.requires.ways c.args.id c.if-has.ensures
+returns-then-not-has g t c = nothing_gathered c.args.dom.now c.requires.tree c.args.wanted.now c.args.ways.now c.args.out.now c.requires.ways c.args.id c.if-not-has.ensures
 
 pub gather-requires : goal.gather-requires
 gather-requires g t c κs within =

@@ -11,4 +11,4 @@ change_nodes-requires g c = record { rising = none_rising c.empty-index.result c
 
 pub returns : goal.returns
 returns g c = made_anew c.args.dom.now c.keeps_tree.ensures.tree c.empty-index.result c.change_nodes.new.self c.empty-index.ensures c.in_ok-change_nodes.ensures.rising
-    (λ x. c.in_ok-change_nodes.ensures.value x ∙ ap (λ ns. with_nodes Comes c.args.dom.now ns x (entry_at c.empty-index.result x)) c.in_ok-nodes.ensures)
+    (λ x. c.in_ok-change_nodes.ensures.value x ∙ ap (λ ns. with_nodes Comes c.args.dom.now ns x (entry_at c.empty-index.result x)) (c.as_slice.ensures ∙ c.in_ok-nodes.ensures))
