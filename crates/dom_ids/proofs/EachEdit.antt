@@ -342,14 +342,14 @@ attr_alike name value (Words chars runs) off = alike_same (Words chars runs) (Wo
 attr_alike name value (Element tag attrs frame) off =
     let p = untied name off in
     attrs_alike tag frame frame attrs (with_value name value attrs) (value_stays (codes "id") name value attrs p.0) (value_stays (codes "for") name value attrs p.1)
-      (value_stays (codes "aria-labelledby") name value attrs p.2) (value_stays (codes "aria-describedby") name value attrs p.3)
+    (value_stays (codes "aria-labelledby") name value attrs p.2) (value_stays (codes "aria-describedby") name value attrs p.3)
 
 unset_alike : (name : Chars) (b : Body) → is_tie name ≡ false → AreTiedAlike b (without_attr name b)
 unset_alike name (Words chars runs) off = alike_same (Words chars runs) (Words chars runs) refl
 unset_alike name (Element tag attrs frame) off =
     let p = untied name off in
     attrs_alike tag frame frame attrs (without_name name attrs) (value_left (codes "id") name attrs p.0) (value_left (codes "for") name attrs p.1)
-      (value_left (codes "aria-labelledby") name attrs p.2) (value_left (codes "aria-describedby") name attrs p.3)
+    (value_left (codes "aria-labelledby") name attrs p.2) (value_left (codes "aria-describedby") name attrs p.3)
 
 -- no cause holds
 record IsFree (d : Document) (e : Edit) : Type 0 where
@@ -438,11 +438,11 @@ module _ (d : Document) (t : IsTree d) (all_inserted : (n : ℕ) → has d n ≡
       let there = shown (has d id) known.0 in
       let old = shown (has d into) known.1 in
       follows_moved d t id into before
-        (λ same. false≢true (sym free.apart ∙ list_any-from_Contains nat_eq_equiv id (lineage d into) (subst (Contains (lineage d into)) (sym same) (root_above d t (t.level into) into old (omega arith)))))
-        there old free.element
-        (λ inside. false≢true (sym free.apart ∙ list_any-from_Contains nat_eq_equiv id (lineage d into) (lineage_within_subtree d t id into inside)))
-        (λ m inside. ltb-false 64 (depth d into + 1 + (depth d m - depth d id)) (none_at (λ m. nat_lt 64 (depth d into + 1 + (depth d m - depth d id))) (subtree d id) m free.low inside))
-        u
+      (λ same. false≢true (sym free.apart ∙ list_any-from_Contains nat_eq_equiv id (lineage d into) (subst (Contains (lineage d into)) (sym same) (root_above d t (t.level into) into old (omega arith)))))
+      there old free.element
+      (λ inside. false≢true (sym free.apart ∙ list_any-from_Contains nat_eq_equiv id (lineage d into) (lineage_within_subtree d t id into inside)))
+      (λ m inside. ltb-false 64 (depth d into + 1 + (depth d m - depth d id)) (none_at (λ m. nat_lt 64 (depth d into + 1 + (depth d m - depth d id))) (subtree d id) m free.low inside))
+      u
 
   set : (id : ℕ) (name value : Chars) → edit_cause d (Set id name value) ≡ None → IsTree (edited d (Set id name value)) → Follows d (edited d (Set id name value)) (went d (Set id name value)) (came (Set id name value)) []
   set id name value none u = go (is_tie name) refl

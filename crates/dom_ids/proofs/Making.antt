@@ -145,7 +145,7 @@ module _ (c : Change) (n : ℕ) (b : Body) (x : Chars) (e : Entry) where
       made_of (named_by c n) (λ (k : Entry). k.namers) (names_text x b) two
       ∙ ap (λ l. cond (names_text x b) l two.namers) (named_namers n c two)
       ∙ ap (λ (l : List ℕ). cond (names_text x b) (risen c l n) l)
-          (same_of (labelled_by c n) (λ (k : Entry). k.namers) (labelled_namers n c) (is_label_for x b) one ∙ same_of (carried_by c n x) (λ (k : Entry). k.namers) (carried_namers n x c) (has_id x b) e)
+      (same_of (labelled_by c n) (λ (k : Entry). k.namers) (labelled_namers n c) (is_label_for x b) one ∙ same_of (carried_by c n x) (λ (k : Entry). k.namers) (carried_namers n x c) (has_id x b) e)
 
 -- whether a node is among some, after another that passes a test has come or gone
 abbrev pub after_change : Change → Bool → Bool → Bool

@@ -121,12 +121,12 @@ module _ (old now : Document) (gone come moved : List ℕ) (f : Follows old now 
     nodes_after carriers_rise namers_rise = record {
       carriers_are = rising_is now (has_id x) f.hangs.is_tree refl more.carriers carriers_rise
           (passing_after (has_id x) refl (λ n a b. (f.same n a b).ids_same x) (λ (k : Entry). k.carriers) risen mem_risen (λ c n b k. carriers_one c n b x k) e
-            (λ q. ap (λ (k : Entry). is_in k.carriers q) was ∙ ids_tell old (has_id x) refl q));
+          (λ q. ap (λ (k : Entry). is_in k.carriers q) was ∙ ids_tell old (has_id x) refl q));
       namers_are = rising_is now (names_text x) f.hangs.is_tree (names_nothing x) more.namers namers_rise
           (passing_after (names_text x) (names_nothing x) (λ n a b. (f.same n a b).names_same x) (λ (k : Entry). k.namers) risen mem_risen (λ c n b k. namers_one c n b x k) e
-            (λ q. ap (λ (k : Entry). is_in k.namers q) was ∙ ids_tell old (names_text x) (names_nothing x) q));
+          (λ q. ap (λ (k : Entry). is_in k.namers q) was ∙ ids_tell old (names_text x) (names_nothing x) q));
       labels_are = λ n. is_in_mem more.labels n ∙ passing_after (is_label_for x) refl (λ n a b. (f.same n a b).labels_same x) (λ (k : Entry). k.labels) lined mem_lined (λ c n b k. labels_one c n b x k) e
-            (λ q. ap (λ (k : Entry). is_in k.labels q) was ∙ order_tells old f.hangs.was_tree (is_label_for x) refl q) n;
+          (λ q. ap (λ (k : Entry). is_in k.labels q) was ∙ order_tells old f.hangs.was_tree (is_label_for x) refl q) n;
     }
 
     -- a text that none of the nodes carries keeps its first element and its labels

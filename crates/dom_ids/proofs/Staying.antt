@@ -88,8 +88,8 @@ module _ (old now : Document) (top : ℕ → Bool) (s : Rehung old now top) (g :
           sym (joined_kept (gathered old g) stays (children old n) (λ c child is. top_was c (not_true (top c) is) (s.was_tree.known n c child)))
           ∙ ap (flat_map (gathered old g)) (s.hung n there was)
           ∙ joined_same (gathered old g) (gathered now g) (filter stays (children now n)) (λ c inside.
-              let r = kept_cases stays (children now n) c inside in
-              each c r.0 (s.was c (s.is_tree.known n c r.0) (not_false (top c) r.1)))
+          let r = kept_cases stays (children now n) c inside in
+          each c r.0 (s.was c (s.is_tree.known n c r.0) (not_false (top c) r.1)))
           ∙ joined_kept (gathered now g) stays (children now n) (λ c child is. top_is c (not_true (top c) is) (s.is_tree.known n c child))
 
   alike : (l n : ℕ) → 64 - s.is_tree.level n ≤ l → has now n ≡ true → has old n ≡ true → gathered old g n ≡ gathered now g n

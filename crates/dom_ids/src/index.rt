@@ -47,12 +47,7 @@ impl Entry {
     }
 
     /// An element with the `id` comes, behind the others in tree order, or goes.
-    pub(crate) fn carry(
-        &mut self,
-        change: Change,
-        id: ObjId,
-        text: &str,
-    ) -> Result<(), NoMemory>
+    pub(crate) fn carry(&mut self, change: Change, id: ObjId, text: &str) -> Result<(), NoMemory>
         requires rising { IsStrictlyIncreasing self.old.carriers }
         ensures { OnOk result (self.new ≡ carried_by change id text.now self.old) }
     {
@@ -198,12 +193,7 @@ impl IdIndex {
     }
 
     /// Keeps an entry of a text, in place of the one that is kept.
-    pub(crate) fn put(
-        &mut self,
-        alloc: Global,
-        text: &str,
-        entry: Entry,
-    ) -> Result<(), NoMemory>
+    pub(crate) fn put(&mut self, alloc: Global, text: &str, entry: Entry) -> Result<(), NoMemory>
         ensures { OnOk result ((x : Chars) → entry_at self.new x ≡ (if bytes_eq x text.now then entry else entry_at self.old x)) }
     {
         if entry.is_empty() {

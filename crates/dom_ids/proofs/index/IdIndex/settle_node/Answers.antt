@@ -14,7 +14,7 @@ returns-in_default-clause-settled g c = none_settled c.args.dom.now (λ x. is_ca
 pub returns-clause-settled : goal.returns-clause-settled
 returns-clause-settled g c =
     settled_same c.args.dom.now (λ x. option_map_or (λ w. bytes_eq x w.now) c.own_id.result false || option_map_or (λ w. bytes_eq x w.now) c.labelled_id.result false) (λ x. is_carried x (body c.args.home.now c.args.id))
-      c.args.self.now c.settle_text-2.new.self
-      (λ x. (λ i. sym (c.own_id.ensures x) i || sym (c.labelled_id.ensures x) i) ∙ ap (is_carried x) (cell_body c.args.home.now c.args.id c.in-Some.cell.now c.in-Some.ensures.value))
-      (then_settled c.args.dom.now (λ x. option_map_or (λ w. bytes_eq x w.now) c.own_id.result false) (λ x. option_map_or (λ w. bytes_eq x w.now) c.labelled_id.result false)
-        c.args.self.now c.settle_text.new.self c.settle_text-2.new.self c.in_ok-settle_text.ensures.settled c.in_ok-settle_text-2.ensures.settled)
+    c.args.self.now c.settle_text-2.new.self
+    (λ x. (λ i. sym (c.own_id.ensures x) i || sym (c.labelled_id.ensures x) i) ∙ ap (is_carried x) (cell_body c.args.home.now c.args.id c.in-Some.cell.now c.in-Some.ensures.value))
+    (then_settled c.args.dom.now (λ x. option_map_or (λ w. bytes_eq x w.now) c.own_id.result false) (λ x. option_map_or (λ w. bytes_eq x w.now) c.labelled_id.result false)
+    c.args.self.now c.settle_text.new.self c.settle_text-2.new.self c.in_ok-settle_text.ensures.settled c.in_ok-settle_text-2.ensures.settled)

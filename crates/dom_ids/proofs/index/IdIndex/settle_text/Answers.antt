@@ -15,4 +15,4 @@ returns-clause-nodes g c = settled_nodes c.args.dom.now c.requires.tree (λ x. b
 pub returns-clause-settled : goal.returns-clause-settled
 returns-clause-settled g c =
     settled_same c.args.dom.now (λ x. bytes_eq x c.in-Some.text.now) (λ x. option_map_or (λ w. bytes_eq x w.now) c.args.text false) c.args.self.now c.put.new.self
-      (λ x. ap (λ o. option_map_or (λ w. bytes_eq x w.now) o false) (sym c.in-Some.is)) (text_settled c.args.dom.now c.in-Some.text.now c.args.self.now c.take-entry.new.self c.put.new.self c.settle.new.self c.in_ok-settle.ensures c.take-entry.ensures.others c.in_ok-put.ensures)
+    (λ x. ap (λ o. option_map_or (λ w. bytes_eq x w.now) o false) (sym c.in-Some.is)) (text_settled c.args.dom.now c.in-Some.text.now c.args.self.now c.take-entry.new.self c.put.new.self c.settle.new.self c.in_ok-settle.ensures c.take-entry.ensures.others c.in_ok-put.ensures)
