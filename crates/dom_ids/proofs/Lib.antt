@@ -1,0 +1,9 @@
+pub mod Tests
+pub mod Changes
+pub mod Making
+pub mod Climbing
+pub mod Staying
+pub mod Gathering
+pub mod Settled
+pub mod EachEdit
+pub mod Renewed
