@@ -14,3 +14,6 @@ loop-id-preserved g c =
 
 pub returns-clause-all : goal.returns-clause-all
 returns-clause-all g c = climbed_all c.args.dom.now c.args.set.now c.loop-id.set c.args.some.now c.args.steps.now c.loop-id.steps c.loop-id.id-index (omega arith) c.loop-id.invariant
+
+pub returns-in_err-climb_known-clause-keeps : goal.returns-in_err-climb_known-clause-keeps
+returns-in_err-climb_known-clause-keeps g c = λ n on. c.climb_known.ensures.keeps n (c.loop-id.invariant.keeps n on)

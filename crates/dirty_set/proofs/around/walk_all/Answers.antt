@@ -14,3 +14,6 @@ loop-root-preserved g c =
 
 pub returns-clause-all : goal.returns-clause-all
 returns-clause-all g c = walked_all c.args.dom.now c.args.walked.now c.loop-root.walked c.args.roots.now c.args.steps.now c.loop-root.steps c.loop-root.root-index (omega arith) c.loop-root.invariant
+
+pub returns-in_err-walk_known-clause-keeps : goal.returns-in_err-walk_known-clause-keeps
+returns-in_err-walk_known-clause-keeps g c = λ n on. c.walk_known.ensures.keeps n (c.loop-root.invariant.keeps n on)
