@@ -1,16 +1,15 @@
 -- Marks that have the same elements reach the same.
-use Rattle.std.proofs.Common.{◌≡◌, inl, inr, ℕ, List, [], ◌∷◌, ◌++◌, Bool, true, false, cond, ◌||◌, ◌&&◌, Contains, refl, sym, ap, ◌∙◌}
+use Rattle.std.proofs.Common.{◌≡◌, ℕ, List, [], ◌∷◌, Bool, true, false, cond, ◌||◌, ◌&&◌, refl, sym, ap, ◌∙◌}
 use Rattle.std.specs.Prelude.{filter, bytes_eq, sum_by}
 use Rattle.std.specs.List.{list_any}
-use Rattle.std.proofs.lemmas.Bool.{false≢true}
 use Rattle.ax_base.specs.Characters.{Chars}
 use Rattle.ax_base.specs.Document.{Document, body, ids, lineage}
-use Rattle.ax_base.proofs.Membership.{Contains-head, Contains-tail}
 use Rattle.ax_dom.specs.Subtrees.{subtree}
 use Rattle.ax_dom.specs.Among.{is_in, has_within}
-use Rattle.dirty_set.specs.Reach.{Marked, is_text_in, is_at_marks, is_focus, is_source, ties_to, is_tied, is_label_of, is_label_of_tied, is_touched, is_reached, reach, weight_of, weight}
+use Rattle.dom_ids.specs.References.{is_text_in}
+use Rattle.dirty_set.specs.Reach.{Marked, is_focus, is_source, ties_to, is_tied, is_label_of, is_touched, is_reached, reach, weight_of, weight}
 use Rattle.dirty_set.specs.Alike.{AreAlike}
-use Rattle.dirty_set.proofs.Tests.{any_at, none_at, found, none, any_same}
+use Rattle.dirty_set.proofs.Tests.{any_at, found, any_same}
 use Rattle.dirty_set.proofs.Texts.{same_text, itself}
 
 filter_same : (p q : ℕ → Bool) (xs : List ℕ) → ((x : ℕ) → p x ≡ q x) → filter p xs ≡ filter q xs

@@ -1,17 +1,16 @@
 -- The climbs together give what marks reach.
-use Rattle.std.proofs.Common.{◌≡◌, ◌⊎◌, inl, inr, ℕ, ◌≤◌, ◌*◌, ◌+◌, length, List, [], ◌∷◌, Bool, true, false, ◌||◌, ◌&&◌, Contains, refl, sym, ap, subst, ◌∙◌, arith}
-use Rattle.std.specs.Prelude.{sum_by}
+use Rattle.std.proofs.Common.{◌≡◌, inl, inr, ℕ, ◌≤◌, length, List, Bool, true, false, ◌||◌, ◌&&◌, Contains, refl, sym, subst, arith}
 use Rattle.std.specs.List.{list_any}
 use Rattle.std.specs.List.Sorted.{IsStrictlyIncreasing}
-use Rattle.std.proofs.lemmas.Bool.{false≢true, or_left, or_right, and_from}
-use Rattle.ax_base.specs.Document.{Document, body, has, ids, children, lineage, IsChild}
+use Rattle.std.proofs.lemmas.Bool.{or_left, or_right, and_from}
+use Rattle.ax_base.specs.Document.{Document, body, has, ids}
 use Rattle.ax_base.specs.Trees.{IsTree}
 use Rattle.ax_base.proofs.Places.{among_ids, has_children}
 use Rattle.ax_dom.specs.Subtrees.{subtree}
 use Rattle.ax_dom.proofs.Subtrees.{subtree_has, within_known}
 use Rattle.dirty_set.specs.NodeSets.{mem, IsUpClosed, KeepsAll}
 use Rattle.ax_dom.specs.Among.{has_within}
-use Rattle.dirty_set.specs.Reach.{Marked, is_at_marks, nodes_near, is_focus, is_source, ties_to, is_tied, is_label_of, is_label_of_tied, is_touched, is_reached, reach, reference_tokens, weight_of, weight}
+use Rattle.dirty_set.specs.Reach.{Marked, is_at_marks, nodes_near, is_focus, is_source, ties_to, is_tied, is_label_of, is_label_of_tied, is_touched, is_reached, reach, weight}
 use Rattle.dirty_set.specs.Reaching.{HasAllThat, OnlyFrom, IsTiedToSome, IsLabelOfSome, IsFocused}
 use Rattle.dirty_set.proofs.Tests.{any_at, found}
 use Rattle.dirty_set.proofs.Closing.{has_id, mem_in, in_mem}

@@ -1,28 +1,19 @@
 -- The reach is what lies on the ways from the touched nodes to the root.
-use Rattle.std.proofs.Common.{◌≡◌, ◌≢◌, ◌⊎◌, inl, inr, ℕ, zero, suc, ◌≤◌, List, [], ◌∷◌, map, Bool, true, false, cond, ◌&&◌, Some, is_some, Contains, refl, sym, ap, subst, ◌∙◌, arith}
-use Rattle.std.specs.Prelude.{filter}
-use Rattle.std.specs.List.{list_any}
-use Rattle.std.specs.List.Sorted.{IsStrictlyIncreasing}
+use Rattle.std.proofs.Common.{◌≡◌, ◌⊎◌, inl, inr, ℕ, zero, suc, ◌≤◌, List, [], ◌∷◌, map, Bool, true, false, cond, Some, is_some, Contains, refl, sym, ap, subst, ◌∙◌, arith}
 use Rattle.std.specs.Ordering.{nat_cmp}
 use Rattle.std.specs.BTreeMap.{is_at}
 use Rattle.std.specs.Map.{lookup}
 use Rattle.std.proofs.lemmas.Bool.{false≢true}
 use Rattle.std.proofs.lemmas.Bool.Decides.{eqb_tells}
-use Rattle.std.proofs.lemmas.List.Kept.{IsStrictlyIncreasing-filter}
-use Rattle.ax_base.specs.Document.{Document, root, has, ids, lineage, lineage_within, IsChild}
+use Rattle.ax_base.specs.Document.{Document, root, has, lineage, IsChild}
 use Rattle.ax_base.specs.Trees.{IsTree}
 use Rattle.ax_base.proofs.Joins.{Contains-cases}
 use Rattle.ax_base.proofs.Lookups.{finds, finds_same, found_is}
-use Rattle.ax_base.proofs.Rising.{rising_same}
-use Rattle.ax_base.proofs.Places.{among_ids, has_children, lineage-child, lineage-root}
+use Rattle.ax_base.proofs.Places.{has_children, lineage-child, lineage-root}
 use Rattle.ax_dom.specs.Subtrees.{subtree}
-use Rattle.ax_dom.proofs.Subtrees.{subtree_has, within_parent, within_child, within_known}
+use Rattle.ax_dom.proofs.Subtrees.{subtree_has, within_child}
 use Rattle.dirty_set.specs.NodeSets.{mem}
-use Rattle.ax_dom.specs.Among.{has_within}
-use Rattle.dirty_set.specs.Reach.{Marked, is_touched, is_reached, reach}
 use Rattle.dirty_set.proofs.Tests.{any_at, found}
-use Rattle.dirty_set.proofs.Firsts.{kept_cases}
-use Rattle.dirty_set.proofs.Edits.{kept_in}
 
 pub mem_in : (ks : List ℕ) (n : ℕ) → mem ks n ≡ true → Contains ks n
 mem_in ks n on = let r = found (is_at (nat_cmp n)) ks on in subst (Contains ks) (sym (found_is n r.0 r.2)) r.1

@@ -1,27 +1,23 @@
 -- Marks cover what differs, and go on to do so.
-use Rattle.std.proofs.Common.{◌≡◌, ◌≢◌, ◌⊎◌, inl, inr, ℕ, zero, suc, ◌≤◌, ◌-◌, List, [], ◌∷◌, ◌++◌, Bool, true, false, cond, not, ◌||◌, ◌&&◌, Option, Some, None, Contains, refl, sym, ap, subst, ◌∙◌, arith}
-use Rattle.std.specs.Prelude.{codes, filter, bytes_eq, nat_eq}
+use Rattle.std.proofs.Common.{◌≡◌, ◌⊎◌, inl, inr, ℕ, List, ◌++◌, Bool, true, false, ◌||◌, ◌&&◌, Option, Some, None, Contains, refl, sym, ap, ◌∙◌}
+use Rattle.std.specs.Prelude.{codes, bytes_eq, nat_eq}
 use Rattle.std.specs.List.{list_any}
 use Rattle.std.specs.Option.{option_map_or}
-use Rattle.std.proofs.lemmas.Bool.{false≢true, or_parts, or_left, or_right, or_from, and_from}
+use Rattle.std.proofs.lemmas.Bool.{false≢true, or_parts, or_left, or_right, or_from}
 use Rattle.std.proofs.lemmas.List.Folds.{list_any-append}
 use Rattle.ax_base.specs.declared.body.Body.{Body}
 use Rattle.ax_base.specs.Characters.{Chars}
-use Rattle.ax_base.specs.Document.{Document, body, has, ids, children, lineage, attr, has_id}
-use Rattle.ax_base.specs.Context.{is_hidden, is_out, live_at}
-use Rattle.ax_base.specs.Kids.{kids}
-use Rattle.ax_base.specs.Said.{said0, said_all}
-use Rattle.ax_base.specs.References.{said1, refs}
-use Rattle.ax_base.specs.AccessibleNames.{is_label_for, name_of, description_of}
+use Rattle.ax_base.specs.Document.{Document, body, has, ids, lineage, attr, has_id}
+use Rattle.ax_base.specs.AccessibleNames.{is_label_for}
 use Rattle.ax_base.proofs.Places.{among_ids}
 use Rattle.ax_dom.specs.Subtrees.{subtree}
-use Rattle.ax_dom.proofs.Subtrees.{subtree_has}
 use Rattle.ax_dom.specs.Among.{is_in, has_within}
-use Rattle.dirty_set.specs.Reach.{Marked, joined_marks, is_text_in, is_at_marks, is_focus, is_source, names_text, ties_to, is_tied, is_label_of, is_label_of_tied, is_touched, is_reached}
+use Rattle.dom_ids.specs.References.{is_text_in, names_text}
+use Rattle.dirty_set.specs.Reach.{Marked, joined_marks, is_at_marks, is_focus, is_source, ties_to, is_tied, is_label_of, is_label_of_tied, is_touched, is_reached}
 use Rattle.dirty_set.specs.Covers.{IsSame, Covers}
-use Rattle.dirty_set.proofs.Tests.{any_at, none_at, found, none, any_same, any_less}
-use Rattle.dirty_set.proofs.Follows.{Follows, IsQuiet, lineage_same, quiet_unrooted, quiet_was, quiet_body, quiet_children, quiet_within, subtree_same, hidden_same, out_same, live_same, kids_same, said0_same, said_all_same}
-use Rattle.dirty_set.proofs.Texts.{IsCalm, IsFree, itself, known_by, carried_id, calm_quiet, calm_within, tie_free, untied, said1_same, name_same, description_same, labelledby_same}
+use Rattle.dirty_set.proofs.Tests.{none_at, none, any_less}
+use Rattle.dirty_set.proofs.Follows.{Follows, lineage_same, quiet_unrooted, quiet_was, quiet_body, quiet_children, subtree_same, hidden_same, out_same, live_same, kids_same, said0_same, said_all_same}
+use Rattle.dirty_set.proofs.Texts.{IsCalm, itself, known_by, carried_id, calm_quiet, calm_within, tie_free, untied, said1_same, name_same, description_same}
 
 same_on : (a b c : Document) (n : ℕ) → IsSame a b n → IsSame b c n → IsSame a c n
 same_on a b c n p q = record {

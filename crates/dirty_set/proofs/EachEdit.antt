@@ -1,40 +1,34 @@
 -- Each edit leads to a document that follows by its marks.
-use Rattle.std.proofs.Common.{◌≡◌, ◌≢◌, ◌⊎◌, inl, inr, ℕ, zero, suc, ◌≤◌, ◌-◌, ◌+◌, List, [], ◌∷◌, ◌++◌, length, Bool, true, false, cond, not, ◌||◌, ◌&&◌, Option, Some, None, is_some, Contains, refl, sym, ap, subst, ◌∙◌, arith, eqb}
+use Rattle.std.proofs.Common.{◌≡◌, ◌≢◌, inl, inr, ℕ, ◌≤◌, ◌-◌, ◌+◌, List, [], ◌∷◌, ◌++◌, length, Bool, true, false, cond, not, Option, Some, None, Contains, refl, sym, ap, subst, ◌∙◌, eqb}
 use Rattle.std.specs.Prelude.{filter, nat_eq}
-use Rattle.std.specs.List.{list_any}
-use Rattle.std.specs.Option.{option_map_or}
-use Rattle.std.specs.Ordering.{nat_cmp}
-use Rattle.std.specs.BTreeMap.{is_at}
-use Rattle.std.proofs.lemmas.Bool.{false≢true, or_parts, or_left, or_right, or_from, eqb-true, eq-eqb}
+use Rattle.std.proofs.lemmas.Bool.{false≢true, or_parts, or_left, eqb-true, eq-eqb}
 use Rattle.std.proofs.lemmas.Bool.Decides.{eqb_tells}
 use Rattle.std.proofs.lemmas.List.Folds.{list_any-append}
-use Rattle.ax_base.specs.declared.attrs.Attr.{Attr}
 use Rattle.ax_base.specs.declared.body.Body.{Body}
-use Rattle.ax_base.specs.Document.{Document, root, body, has, ids, children, parent, depth, is_text, IsChild}
+use Rattle.ax_base.specs.Document.{Document, root, body, has, ids, children, parent, depth, is_text}
 use Rattle.ax_base.specs.Rects.{HasRectsWithin}
 use Rattle.ax_base.specs.Runs.{KeepsRuns}
 use Rattle.ax_base.specs.Texts.{IsFitting}
 use Rattle.ax_base.specs.Trees.{IsTree}
-use Rattle.ax_base.proofs.Lookups.{finds, finds_is, finds_same, finds_tells, found_is}
+use Rattle.ax_base.proofs.Lookups.{finds, finds_same, finds_tells}
 use Rattle.ax_base.proofs.Membership.{Contains-head, Contains-tail}
 use Rattle.ax_base.proofs.Places.{parent-child}
 use Rattle.ax_base.proofs.Shapes.{HasShapeOf, parent_same}
 use Rattle.ax_dom.specs.declared.cell.Cell.{Cell}
 use Rattle.ax_dom.specs.declared.edit.Edit.{Edit}
-use Rattle.ax_dom.specs.declared.edit.Edit.TheVariants.{InsertElement, InsertText, Remove, Move, Chars as NewChars, Set, Unset, SetRuns, Frame, Focus}
+use Rattle.ax_dom.specs.declared.edit.Edit.TheVariants.{Remove, Move}
 use Rattle.ax_dom.specs.Places.{placed, placed_before, without}
-use Rattle.ax_dom.specs.Slots.{cell_of}
 use Rattle.ax_dom.specs.Subtrees.{subtree, is_within}
 use Rattle.ax_dom.specs.Changes.{inserted, with_body, with_focus, removed, moved, unhung_from}
 use Rattle.ax_dom.proofs.Agreement.{parents_agree}
 use Rattle.ax_dom.proofs.Amended.{shape_amended, body_apart}
-use Rattle.ax_dom.proofs.Inserts.{children_is, old_apart, has_kept, has_cases, body_kept, parent_kept, tree_after}
+use Rattle.ax_dom.proofs.Inserts.{children_is, old_apart, has_kept, has_cases, body_kept, parent_kept}
 use Rattle.ax_dom.proofs.Moved.{children_unhung, children_moved, body_moved, has_moved, place_stays}
 use Rattle.ax_dom.proofs.Removed.{within_is, is_within_from, has_outside, children_outside, body_outside, left_outside, left_was, cell_left}
 use Rattle.ax_dom.proofs.Subtrees.{subtree_has}
 use Rattle.ax_dom.proofs.Without.{without_cases, without_none}
 use Rattle.ax_dom.specs.Among.{is_in}
-use Rattle.dirty_set.specs.Reach.{Marked, listed}
+use Rattle.dom_ids.specs.References.{listed}
 use Rattle.dirty_set.specs.Marking.{named, put, out, left, marked_nodes, marked}
 use Rattle.dirty_set.proofs.Follows.{Follows}
 use Rattle.dirty_set.proofs.Edits.{in_from, follows_from}

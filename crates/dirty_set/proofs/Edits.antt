@@ -1,33 +1,31 @@
 -- Each edit leads to a document that follows by the marks of the edit.
-use Rattle.std.proofs.Common.{◌≡◌, ◌≢◌, ◌⊎◌, inl, inr, ℕ, zero, suc, ◌≤◌, ◌-◌, List, [], ◌∷◌, ◌++◌, Bool, true, false, cond, not, ◌||◌, ◌&&◌, Option, Some, None, is_some, Contains, refl, sym, ap, subst, ◌∙◌, arith, eqb}
-use Rattle.std.specs.Prelude.{codes, filter, bytes_eq, nat_eq, flat_map}
+use Rattle.std.proofs.Common.{◌≡◌, ◌⊎◌, inl, inr, ℕ, List, [], ◌∷◌, ◌++◌, Bool, true, false, cond, not, ◌||◌, ◌&&◌, Option, Some, None, Contains, refl, sym, ap, subst, ◌∙◌, arith}
+use Rattle.std.specs.Prelude.{filter, bytes_eq, nat_eq, flat_map}
 use Rattle.std.specs.List.{list_any}
 use Rattle.std.specs.Option.{option_map_or, option_eq}
 use mathlib.Core.Bool.{beq}
 use Rattle.ax_base.specs.contracts.states.LivePartialEq.TheImpl as lives
 use Rattle.std.specs.Cmp.{nat_eq_equiv}
-use Rattle.std.proofs.lemmas.Bool.{false≢true, or_parts, or_left, or_right, or_from, eqb-true, eq-eqb}
-use Rattle.std.proofs.lemmas.Bool.Decides.{eqb_tells}
+use Rattle.std.proofs.lemmas.Bool.{false≢true, or_parts, or_left, or_right, eqb-true}
 use Rattle.std.proofs.lemmas.List.Folds.{list_any-append}
 use Rattle.std.proofs.lemmas.List.Elements.{Contains-append_left, Contains-append_right}
 use Rattle.std.proofs.lemmas.Map.Views.{Contains-from_any, list_any-from_Contains}
 use Rattle.ax_base.specs.declared.states.Live.{Live}
 use Rattle.ax_base.specs.declared.states.Live.TheVariants.{Off, Polite, Assertive}
-use Rattle.ax_base.specs.declared.body.Body.{Body}
-use Rattle.ax_base.specs.declared.body.Body.TheVariants.{Element, Words}
 use Rattle.ax_base.specs.Characters.{Chars}
-use Rattle.ax_base.specs.Document.{Document, Node, node, root, body, has, ids, children, parent, lineage, is_text, IsChild}
+use Rattle.ax_base.specs.Document.{Document, body, has, ids, children, parent, lineage}
 use Rattle.ax_base.specs.Trees.{IsTree}
 use Rattle.ax_base.proofs.Joins.{Contains-cases}
 use Rattle.ax_base.proofs.Membership.{Contains-head, Contains-tail}
-use Rattle.ax_base.proofs.Places.{among_ids, parent-child}
+use Rattle.ax_base.proofs.Places.{among_ids}
 use Rattle.ax_dom.specs.declared.edit.Edit.{Edit}
 use Rattle.ax_dom.specs.Subtrees.{subtree}
 use Rattle.ax_dom.proofs.Subtrees.{subtree_has, lineage_within_subtree}
 use Rattle.ax_dom.specs.Among.{is_in, has_within}
-use Rattle.dirty_set.specs.Reach.{Marked, listed, is_text_in, is_at_marks, is_focus}
-use Rattle.dirty_set.specs.Marking.{Own, own, same_own, named, put, out, left, turned, carried, carried_near, marked_nodes, marked_roots, marked}
-use Rattle.dirty_set.proofs.Tests.{any_at, none_at, found, none, any_less}
+use Rattle.dom_ids.specs.References.{listed, is_text_in, carried}
+use Rattle.dirty_set.specs.Reach.{is_at_marks, is_focus}
+use Rattle.dirty_set.specs.Marking.{Own, own, same_own, named, put, out, left, turned, carried_near, marked_nodes, marked_roots, marked}
+use Rattle.dirty_set.proofs.Tests.{any_at, found}
 use Rattle.dirty_set.proofs.Follows.{Follows}
 use Rattle.dirty_set.proofs.Texts.{itself, known_by}
 

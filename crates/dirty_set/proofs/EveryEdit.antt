@@ -1,19 +1,17 @@
 -- Every edit that nothing refuses leads to a document that follows by its marks.
-use Rattle.std.proofs.Common.{◌≡◌, ◌≢◌, ◌⊎◌, inl, inr, ℕ, ◌+◌, ◌≤◌, ◌-◌, List, [], ◌∷◌, Bool, true, false, cond, not, ◌||◌, Option, Some, None, Contains, refl, sym, ap, subst, ◌∙◌, arith}
+use Rattle.std.proofs.Common.{◌≡◌, ◌≢◌, ℕ, ◌+◌, ◌≤◌, ◌-◌, [], ◌∷◌, Bool, true, false, not, ◌||◌, Some, None, Contains, refl, sym, subst, ◌∙◌, arith}
 use Rattle.std.specs.Prelude.{nat_lt, nat_le, nat_eq, length}
-use Rattle.std.specs.List.{list_any}
 use Rattle.std.specs.Cmp.{nat_eq_equiv}
 use Rattle.std.proofs.lemmas.Bool.{false≢true, or_parts, ltb-false, leb-false, eq-eqb}
 use Rattle.std.proofs.lemmas.Map.Views.{list_any-from_Contains}
 use Rattle.ax_base.specs.declared.body.Body.TheVariants.{Element, Words}
-use Rattle.ax_base.specs.Document.{Document, root, has, ids, body, depth, lineage, is_text}
+use Rattle.ax_base.specs.Document.{Document, root, has, ids, body, depth, lineage}
 use Rattle.ax_base.specs.Trees.{IsTree}
 use Rattle.ax_base.proofs.Places.{depth-level}
-use Rattle.ax_dom.specs.declared.cause.EditCause.{EditCause}
 use Rattle.ax_dom.specs.declared.cause.EditCause.TheVariants.{NoNode, UsedId, BadPlace, NotElement, NotText, IntoItself, RootFixed, TooDeep, TooMany, BadRuns, TooLong}
 use Rattle.ax_dom.specs.declared.edit.Edit.{Edit}
 use Rattle.ax_dom.specs.declared.edit.Edit.TheVariants.{InsertElement, InsertText, Remove, Move, Chars as NewChars, Set, Unset, SetRuns, Frame, Focus}
-use Rattle.ax_dom.specs.Changes.{edited, no_frame, with_focus}
+use Rattle.ax_dom.specs.Changes.{edited, no_frame}
 use Rattle.ax_dom.specs.Bodies.{with_chars, with_attr, without_attr, with_runs, with_frame}
 use Rattle.ax_dom.specs.Refusals.{edit_cause, first_cause, lacks_node, reuses_id, lacks_place, wants_element, wants_text, goes_into_itself, removes_root, goes_too_deep, is_one_too_many, breaks_runs, is_too_long}
 use Rattle.ax_dom.specs.Subtrees.{subtree}
@@ -24,7 +22,6 @@ use Rattle.ax_dom.proofs.Few.{few_nodes}
 use Rattle.ax_dom.proofs.Fitting.{text_fits}
 use Rattle.ax_dom.proofs.MovedSlots.{root_above}
 use Rattle.ax_dom.proofs.Subtrees.{lineage_within_subtree}
-use Rattle.ax_dom.specs.Among.{is_in}
 use Rattle.dirty_set.specs.Marking.{marked, key_of}
 use Rattle.dirty_set.proofs.Tests.{none_at}
 use Rattle.dirty_set.proofs.Follows.{Follows}

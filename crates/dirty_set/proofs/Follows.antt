@@ -1,17 +1,15 @@
 -- What stays the same from one document to the next, outside what an edit marks.
-use Rattle.std.proofs.Common.{◌≡◌, ◌≢◌, ◌⊎◌, inl, inr, ℕ, zero, suc, ◌≤◌, ◌-◌, List, [], ◌∷◌, ◌++◌, Bool, true, false, cond, not, ◌||◌, ◌&&◌, Option, Some, None, Contains, refl, sym, ap, subst, ◌∙◌, arith}
-use Rattle.std.specs.Prelude.{filter, nat_eq}
+use Rattle.std.proofs.Common.{◌≡◌, ◌⊎◌, inl, inr, ℕ, zero, suc, ◌≤◌, ◌-◌, List, [], ◌∷◌, Bool, true, false, not, ◌||◌, Option, Some, None, Contains, refl, sym, ap, subst, ◌∙◌, arith}
+use Rattle.std.specs.Prelude.{filter}
 use Rattle.std.specs.List.{list_any}
 use Rattle.std.specs.Option.{option_map_or, unwrap_or}
-use Rattle.std.proofs.lemmas.Bool.{false≢true, or_parts, or_left}
+use Rattle.std.proofs.lemmas.Bool.{false≢true, or_parts}
 use Rattle.ax_base.specs.Characters.{Chars}
-use Rattle.ax_base.specs.declared.body.Body.{Body}
 use Rattle.ax_base.specs.Document.{Document, Spot, spot, body, has, children, parent, lineage, lineage_within, ancestors, preorder, from_children, IsChild}
 use Rattle.ax_base.specs.Trees.{IsTree}
 use Rattle.ax_base.specs.Roles.{hides, prunes, ignored}
 use Rattle.ax_base.specs.Kids.{standing, kids_from, kids}
 use Rattle.ax_base.specs.Said.{said0_from, said0, said_all_from, said_all}
-use Rattle.ax_base.specs.States.{sets_live}
 use Rattle.ax_base.specs.Context.{is_hidden, is_pruned, is_out, first_live, live_at}
 use Rattle.ax_base.proofs.Below.{from_below_same}
 use Rattle.ax_base.proofs.Joins.{Contains-cases}
@@ -21,9 +19,10 @@ use Rattle.ax_dom.specs.Subtrees.{subtree}
 use Rattle.ax_dom.proofs.Subtrees.{subtree_has, subtree_cases, within_child, within_known}
 use Rattle.ax_dom.proofs.Walks.{child_from_parent}
 use Rattle.ax_dom.specs.Among.{is_in, has_within}
-use Rattle.dirty_set.specs.Reach.{Marked, is_text_in, is_at_marks, is_focus, is_source}
-use Rattle.dirty_set.specs.Marking.{Own, own, carried}
-use Rattle.dirty_set.proofs.Tests.{any_at, none_at, found, none, any_same}
+use Rattle.dom_ids.specs.References.{is_text_in, carried}
+use Rattle.dirty_set.specs.Reach.{Marked, is_at_marks, is_focus}
+use Rattle.dirty_set.specs.Marking.{Own, own}
+use Rattle.dirty_set.proofs.Tests.{none_at, none, any_same}
 
 -- One document comes from another by a change that the marks tell.
 pub record Follows (old now : Document) (m : Marked) : Type 0 where

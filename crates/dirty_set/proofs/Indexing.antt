@@ -1,20 +1,20 @@
 -- What an index answers for a text stays, where no node that is marked carries the text.
-use Rattle.std.proofs.Common.{◌≡◌, ◌≢◌, ◌⊎◌, inl, inr, ℕ, List, [], ◌∷◌, Bool, true, false, Contains, refl, sym, ap, ◌∙◌}
-use Rattle.std.specs.Prelude.{filter, find}
+use Rattle.std.proofs.Common.{◌≡◌, ◌⊎◌, inl, inr, ℕ, [], Bool, true, false, Contains, refl, sym, ap, ◌∙◌}
+use Rattle.std.specs.Prelude.{filter}
 use Rattle.std.proofs.lemmas.Bool.{false≢true}
 use Rattle.std.proofs.lemmas.List.Kept.{IsStrictlyIncreasing-filter}
 use Rattle.ax_base.specs.declared.body.Body.{Body}
 use Rattle.ax_base.specs.declared.body.Body.TheVariants.{Words}
 use Rattle.ax_base.specs.Characters.{Chars, tokens}
-use Rattle.ax_base.specs.Document.{Document, body, has, ids, order, lineage, has_id}
+use Rattle.ax_base.specs.Document.{Document, body, has, ids, lineage, has_id}
 use Rattle.ax_base.specs.AccessibleNames.{is_label_for}
 use Rattle.ax_base.proofs.Places.{among_ids}
 use Rattle.ax_dom.specs.Subtrees.{subtree}
-use Rattle.ax_dom.specs.Among.{is_in, has_within}
-use Rattle.dirty_set.specs.Reach.{Marked, is_text_in, is_at_marks, names_text}
-use Rattle.dirty_set.specs.Marking.{carried}
-use Rattle.dirty_set.specs.Index.{carriers, namers, labels}
-use Rattle.dirty_set.proofs.Follows.{Follows, IsQuiet, quiet_was, quiet_body, quiet_unrooted, unmarked, lineage_head}
+use Rattle.ax_dom.specs.Among.{is_in}
+use Rattle.dom_ids.specs.References.{names_text}
+use Rattle.dirty_set.specs.Reach.{Marked}
+use Rattle.dom_ids.specs.Index.{carriers, namers, labels}
+use Rattle.dirty_set.proofs.Follows.{Follows, quiet_was, quiet_body, quiet_unrooted, unmarked, lineage_head}
 use Rattle.dirty_set.proofs.Tests.{none_at}
 use Rattle.dirty_set.proofs.Firsts.{kept_cases}
 use Rattle.dirty_set.proofs.Gathered.{gathered_same}

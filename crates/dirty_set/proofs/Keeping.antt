@@ -7,7 +7,8 @@ use Rattle.ax_dom.specs.Changes.{edited}
 use Rattle.ax_dom.specs.Refusals.{edit_cause}
 use Rattle.ax_dom.specs.Used.{is_used}
 use Rattle.ax_dom.specs.Among.{is_in}
-use Rattle.dirty_set.specs.Reach.{Marked, joined_marks, is_text_in}
+use Rattle.dom_ids.specs.References.{is_text_in}
+use Rattle.dirty_set.specs.Reach.{Marked, joined_marks}
 use Rattle.dirty_set.specs.Marking.{marked}
 use Rattle.dirty_set.specs.Covers.{Covers}
 use Rattle.dirty_set.specs.Alike.{AreAlike}

@@ -1,15 +1,15 @@
 -- What the nodes near marks take.
-use Rattle.std.proofs.Common.{◌≡◌, ◌≢◌, ◌⊎◌, inl, inr, ℕ, zero, suc, ◌+◌, ◌≤◌, ◌<◌, List, [], ◌∷◌, ◌++◌, length, take, get_or, Bool, true, false, ◌||◌, ◌&&◌, Contains, refl, sym, ap, subst, ◌∙◌, arith}
+use Rattle.std.proofs.Common.{◌≡◌, ◌⊎◌, inl, inr, ℕ, zero, suc, ◌+◌, ◌≤◌, ◌<◌, List, [], ◌∷◌, ◌++◌, length, take, get_or, Bool, true, false, ◌||◌, ◌&&◌, Contains, refl, sym, ap, subst, ◌∙◌, arith}
 use Rattle.std.specs.Prelude.{filter}
 use Rattle.std.specs.List.{list_any}
 use Rattle.std.specs.List.Sorted.{IsStrictlyIncreasing}
-use Rattle.std.proofs.lemmas.Bool.{false≢true, or_left, or_right, and_from}
+use Rattle.std.proofs.lemmas.Bool.{false≢true, or_left, or_right}
 use Rattle.std.proofs.lemmas.List.{take_all, take_more}
 use Rattle.std.proofs.lemmas.List.Kept.{IsStrictlyIncreasing-filter}
 use Rattle.std.proofs.lemmas.List.Elements.{Contains-push_cases}
 use Rattle.ax_base.specs.Document.{Document, has, ids, lineage, IsChild}
 use Rattle.ax_base.specs.Trees.{IsTree}
-use Rattle.ax_base.proofs.Places.{among_ids, has_children}
+use Rattle.ax_base.proofs.Places.{among_ids}
 use Rattle.ax_base.proofs.Rising.{rising_same}
 use Rattle.ax_dom.specs.Subtrees.{subtree}
 use Rattle.ax_dom.proofs.Subtrees.{subtree_has, within_child, within_parent, within_level, within_known, lineage_within_subtree}
@@ -21,7 +21,7 @@ use Rattle.dirty_set.proofs.Edits.{kept_in, in_from, in_is}
 use Rattle.dirty_set.proofs.Closing.{has_id, mem_in, in_mem, lineage_below}
 use Rattle.dirty_set.proofs.Firsts.{kept_cases}
 use Rattle.dirty_set.proofs.Lengths.{fits_in}
-use Rattle.dirty_set.specs.NodeSets.{mem, IsUpClosed, IsDownClosed, IsDownClosedBelow, HasAllOf, KeepsAll, OnlyAdds}
+use Rattle.dirty_set.specs.NodeSets.{mem, IsUpClosed, IsDownClosed, IsDownClosedBelow, KeepsAll, OnlyAdds}
 use Rattle.dirty_set.specs.Near.{ComesFrom, LiesBelow, HasKnownOf, HasBelowOf}
 
 taken_cases : (xs : List ℕ) (i x n : ℕ) → i < length xs → x ≡ get_or xs i x → Contains (take (i + 1) xs) n → Contains (take i xs) n ⊎ (n ≡ x)

@@ -1,17 +1,16 @@
 -- What the marks of an edit take.
-use Rattle.std.proofs.Common.{◌≡◌, ℕ, ◌+◌, ◌≤◌, ◌<◌, List, [], ◌∷◌, ◌++◌, length, take, get_or, Bool, true, false, cond, Option, Some, None, refl, sym, ap, subst, ◌∙◌, arith, append-nil, append_assoc}
+use Rattle.std.proofs.Common.{◌≡◌, ℕ, ◌+◌, ◌≤◌, ◌<◌, List, [], ◌∷◌, ◌++◌, length, take, get_or, Bool, true, false, cond, Option, Some, None, refl, sym, ap, ◌∙◌, append-nil, append_assoc}
 use Rattle.std.specs.Prelude.{flat_map, codes}
 use Rattle.std.specs.Option.{option_map_or}
 use Rattle.std.proofs.lemmas.List.{take_all, take_more}
 use Rattle.std.proofs.lemmas.Option.{same_Some}
-use Rattle.ax_base.specs.declared.body.Body.{Body}
 use Rattle.ax_base.specs.declared.body.Body.TheVariants.{Words}
 use Rattle.ax_base.specs.Characters.{Chars}
 use Rattle.ax_base.specs.Document.{Document, Node, node, body, has, attr}
 use Rattle.ax_dom.specs.declared.cell.Cell.{Cell}
 use Rattle.ax_dom.specs.Slots.{cell_of, cell_at}
-use Rattle.dirty_set.specs.Reach.{listed, label_for}
-use Rattle.dirty_set.specs.Marking.{carried, carried_by_all}
+use Rattle.dom_ids.specs.References.{listed, label_for, carried}
+use Rattle.dirty_set.specs.Marking.{carried_by_all}
 
 joined_more : (f : ℕ → List Chars) (xs : List ℕ) (x : ℕ) → flat_map f (xs ++ x ∷ []) ≡ flat_map f xs ++ f x
 joined_more f [] x = append-nil (f x)

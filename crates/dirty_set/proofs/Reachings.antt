@@ -1,6 +1,6 @@
 -- What the climbs from the nodes that a rule picks take.
-use Rattle.std.proofs.Common.{◌≡◌, ◌⊎◌, inl, inr, ℕ, zero, suc, ◌+◌, ◌≤◌, ◌<◌, List, [], ◌∷◌, ◌++◌, length, take, get_or, Bool, true, false, cond, ◌||◌, ◌&&◌, Option, Some, None, Contains, refl, sym, ap, subst, ◌∙◌, arith}
-use Rattle.std.specs.Prelude.{filter, codes, nat_eq}
+use Rattle.std.proofs.Common.{◌≡◌, ◌⊎◌, inl, inr, ℕ, ◌+◌, ◌≤◌, ◌<◌, List, [], ◌∷◌, ◌++◌, length, take, get_or, Bool, true, false, cond, ◌||◌, Option, Some, None, Contains, refl, sym, ap, subst, ◌∙◌, arith}
+use Rattle.std.specs.Prelude.{codes, nat_eq}
 use Rattle.std.specs.List.{list_any}
 use Rattle.std.specs.List.Sorted.{IsStrictlyIncreasing}
 use Rattle.std.specs.Option.{option_map_or}
@@ -9,23 +9,22 @@ use Rattle.std.proofs.lemmas.Option.{same_Some}
 use Rattle.ax_dom.specs.declared.cell.Cell.{Cell}
 use Rattle.ax_dom.specs.Slots.{cell_of, cell_at}
 use Rattle.std.proofs.lemmas.List.{take_all, take_more}
-use Rattle.std.proofs.lemmas.List.Elements.{Contains-push_cases, Contains-append_left, Contains-push}
-use Rattle.std.proofs.lemmas.List.Folds.{list_any-append}
+use Rattle.std.proofs.lemmas.List.Elements.{Contains-push_cases}
 use Rattle.ax_base.specs.Characters.{Chars}
-use Rattle.ax_base.specs.Document.{Document, body, has, ids, order, root, lineage, attr, has_id, IsChild}
+use Rattle.ax_base.specs.Document.{Document, body, has, ids, order, attr, has_id}
 use Rattle.ax_base.specs.Trees.{IsTree}
 use Rattle.ax_base.specs.AccessibleNames.{is_label_for}
-use Rattle.ax_base.proofs.Places.{among_ids, has_children}
+use Rattle.ax_base.proofs.Places.{among_ids}
 use Rattle.ax_dom.proofs.Copied.{in_order}
-use Rattle.std.proofs.lemmas.Bool.Decides.{eqb_tells}
-use Rattle.dirty_set.specs.Reach.{ties_to, names_text, is_label_of, is_focus}
-use Rattle.dirty_set.specs.Index.{carriers, namers, labels}
+use Rattle.dom_ids.specs.References.{names_text}
+use Rattle.dirty_set.specs.Reach.{ties_to, is_label_of}
+use Rattle.dom_ids.specs.Index.{carriers, namers, labels}
 use Rattle.dirty_set.proofs.Edits.{kept_in}
 use Rattle.dirty_set.proofs.Firsts.{kept_cases}
 use Rattle.dirty_set.proofs.Tests.{any_at, found}
 use Rattle.dirty_set.specs.NodeSets.{mem, IsUpClosed, KeepsAll}
 use Rattle.dirty_set.specs.Near.{ComesFrom, HasKnownOf}
-use Rattle.dirty_set.specs.Reaching.{HasAllThat, OnlyFrom, IsTiedTo, IsTiedToSome, IsLabelOf, IsLabelOfSome, IsFocused}
+use Rattle.dirty_set.specs.Reaching.{HasAllThat, OnlyFrom, IsTiedTo, IsTiedToSome, IsLabelOf, IsLabelOfSome}
 
 -- a rule that picks more
 pub only_more : (d : Document) (P Q : ℕ → Type 0) (old new : List ℕ) → ((q : ℕ) → P q → Q q) → OnlyFrom d P old new → OnlyFrom d Q old new

@@ -1,5 +1,5 @@
 -- What references, names and descriptions say stays the same, outside what an edit marks.
-use Rattle.std.proofs.Common.{◌≡◌, ◌≢◌, ◌⊎◌, inl, inr, ℕ, zero, suc, ◌≤◌, ◌-◌, List, [], ◌∷◌, ◌++◌, map, take, Bool, true, false, cond, not, ◌||◌, ◌&&◌, Option, Some, None, Contains, refl, sym, ap, subst, ◌∙◌, arith}
+use Rattle.std.proofs.Common.{◌≡◌, ℕ, List, [], ◌∷◌, ◌++◌, map, take, Bool, true, false, cond, not, ◌||◌, ◌&&◌, Option, Some, None, Contains, refl, sym, ap, subst, ◌∙◌}
 use Rattle.std.specs.Prelude.{find, is_some, bytes_eq, codes, ◌==◌}
 use Rattle.std.specs.List.{list_any, flat_map}
 use Rattle.std.specs.Option.{option_map_or, unwrap_or}
@@ -7,32 +7,28 @@ use Rattle.std.proofs.lemmas.Cmp.{nat_list_eq_equiv}
 use Rattle.std.proofs.lemmas.Bool.{false≢true, or_parts, or_left, or_right}
 use Rattle.std.proofs.lemmas.List.Elements.{Contains-append_left, Contains-append_right}
 use Rattle.std.proofs.lemmas.Slice.Eq.{bytes_eq-Decides}
-use Rattle.ax_base.specs.declared.attrs.Attr.{Attr}
 use Rattle.ax_base.specs.declared.body.Body.{Body}
 use Rattle.ax_base.specs.declared.body.Body.TheVariants.{Element, Words}
 use Rattle.ax_base.specs.Attributes.{value_of}
 use Rattle.ax_base.specs.Characters.{Chars, flat, cut, is_blank, first_said, tokens, joined_by_spaces}
 use Rattle.ax_base.specs.Values.{text_in}
-use Rattle.ax_base.specs.Document.{Document, Node, node, Spot, spot, body, has, root, order, children, attr, text_of, has_id, target, IsChild}
-use Rattle.ax_base.specs.Trees.{IsTree}
-use Rattle.ax_base.specs.Context.{is_hidden}
-use Rattle.ax_base.specs.Said.{said0, said_all, is_block, spaced, is_button_field, child_text}
-use Rattle.ax_base.specs.Recursion.{from_below}
+use Rattle.ax_base.specs.Document.{Document, Node, node, spot, body, has, order, children, attr, text_of, has_id, target, IsChild}
+use Rattle.ax_base.specs.Said.{is_block, spaced, is_button_field, child_text}
 use Rattle.ax_base.specs.Roles.{role, hides}
 use Rattle.ax_base.specs.NamedRoles.{names_from_content, name_prohibited}
 use Rattle.ax_base.specs.Focusable.{is_field}
-use Rattle.ax_base.specs.References.{Referring, referring, referred_node, referred_text, refs, said1_from, said1}
-use Rattle.ax_base.specs.AccessibleNames.{is_label_for, first_label, is_target, labelled_text, host_label_of, host_label, content_text, naming_texts, title_of, may_be_named, naming_text, name_of, is_named_by_title, describing_text, description_of}
+use Rattle.ax_base.specs.References.{referring, referred_node, referred_text, refs, said1_from, said1}
+use Rattle.ax_base.specs.AccessibleNames.{is_label_for, first_label, labelled_text, host_label, content_text, naming_texts, naming_text, name_of, describing_text, description_of}
 use Rattle.ax_base.proofs.Below.{from_below_same}
 use Rattle.ax_base.proofs.Membership.{map_same, Contains-head, Contains-tail}
 use Rattle.ax_dom.specs.Subtrees.{subtree}
 use Rattle.ax_dom.proofs.Kept.{found_passes}
 use Rattle.ax_dom.proofs.Subtrees.{subtree_has, within_known, within_child}
-use Rattle.ax_dom.specs.Among.{is_in, has_within}
-use Rattle.dirty_set.specs.Reach.{Marked, listed, label_for, is_text_in, is_at_marks, is_focus, is_source, names_text, ties_to, is_tied}
-use Rattle.dirty_set.specs.Marking.{carried}
+use Rattle.ax_dom.specs.Among.{has_within}
+use Rattle.dom_ids.specs.References.{listed, label_for, is_text_in, names_text, carried}
+use Rattle.dirty_set.specs.Reach.{Marked, is_at_marks, is_focus, is_source, ties_to, is_tied}
 use Rattle.dirty_set.proofs.Tests.{any_at, none_at, found, none, any_less}
-use Rattle.dirty_set.proofs.Follows.{Follows, IsQuiet, quiet_unrooted, quiet_body, quiet_spot, quiet_children, quiet_child, within_below, hidden_same, said0_same, said_all_same}
+use Rattle.dirty_set.proofs.Follows.{Follows, IsQuiet, quiet_unrooted, quiet_body, quiet_spot, quiet_children, within_below, hidden_same, said0_same, said_all_same}
 use Rattle.dirty_set.proofs.Firsts.{first_in_order}
 
 pub same_text : (x y : Chars) → bytes_eq x y ≡ true → x ≡ y

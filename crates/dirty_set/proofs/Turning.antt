@@ -1,7 +1,6 @@
 -- Only the node that an edit names by its first key can hide, leave out or set otherwise than before.
-use Rattle.std.proofs.Common.{◌≡◌, ◌≢◌, ◌⊎◌, inl, inr, ℕ, List, [], ◌∷◌, Bool, true, false, cond, not, ◌&&◌, Option, Some, None, Contains, refl, sym, ap, subst, ◌∙◌, arith}
-use Rattle.std.specs.Prelude.{filter}
-use Rattle.std.specs.Option.{option_eq, option_map_or}
+use Rattle.std.proofs.Common.{◌≡◌, ◌≢◌, inl, inr, ℕ, [], ◌∷◌, Bool, true, false, cond, not, ◌&&◌, Option, Some, None, Contains, refl, sym, ap, subst, ◌∙◌, arith}
+use Rattle.std.specs.Option.{option_eq}
 use Rattle.std.specs.List.Sorted.{IsStrictlyIncreasing}
 use Rattle.std.proofs.lemmas.Bool.{false≢true}
 use Rattle.std.proofs.lemmas.Bool.Decides.{eqb_tells}
@@ -26,7 +25,7 @@ use Rattle.ax_dom.specs.Used.{is_used}
 use Rattle.dirty_set.specs.Marking.{Own, own_at, own, same_own, key_of, turned}
 use Rattle.dirty_set.proofs.Closing.{has_id}
 use Rattle.dirty_set.proofs.Edits.{kept_in}
-use Rattle.dirty_set.proofs.EveryEdit.{IsFree, free_from, bodies_stay}
+use Rattle.dirty_set.proofs.EveryEdit.{free_from, bodies_stay}
 use Rattle.dirty_set.proofs.Firsts.{kept_cases}
 
 -- whether both documents have a node and it is otherwise than before

@@ -1,10 +1,9 @@
 -- What is counted in tree order is what is counted by rising id.
-use Rattle.std.proofs.Common.{◌≡◌, ◌≢◌, ◌⊎◌, inl, inr, ℕ, zero, suc, ◌+◌, ◌*◌, ◌≤◌, List, [], ◌∷◌, ◌++◌, length, Bool, true, false, cond, not, Contains, refl, sym, ap, subst, ◌∙◌, arith}
+use Rattle.std.proofs.Common.{◌≡◌, inl, inr, ℕ, ◌+◌, ◌*◌, ◌≤◌, List, [], ◌∷◌, length, Bool, true, false, cond, not, Contains, refl, sym, ap, subst, ◌∙◌, arith}
 use Rattle.std.specs.Prelude.{filter, sum_by}
-use Rattle.std.proofs.lemmas.Bool.{eqb-true, eq-eqb, false≢true}
 use Rattle.std.proofs.lemmas.Bool.Decides.{eqb_tells}
 use Rattle.std.proofs.lemmas.List.Sums.{sum_by-append}
-use Rattle.ax_base.specs.Document.{Document, root, has, ids, order}
+use Rattle.ax_base.specs.Document.{Document, root, ids, order}
 use Rattle.ax_base.specs.Trees.{IsTree, HasNoRepeats}
 use Rattle.ax_base.proofs.Joins.{Contains-cases}
 use Rattle.ax_base.proofs.Membership.{Contains-head, Contains-tail}
@@ -12,7 +11,7 @@ use Rattle.ax_base.proofs.Places.{among_ids}
 use Rattle.ax_base.proofs.Repeats.{no_repeats-nil, no_repeats-cons, head_apart, tail_no_repeats}
 use Rattle.ax_dom.specs.Places.{without}
 use Rattle.ax_dom.proofs.Subtrees.{subtree_once, within_known}
-use Rattle.ax_dom.proofs.Without.{without_keeps, without_none}
+use Rattle.ax_dom.proofs.Without.{without_keeps}
 use Rattle.dirty_set.specs.Reach.{Marked, is_reached, weight_of, weight}
 use Rattle.dirty_set.proofs.Firsts.{kept_cases}
 use Rattle.dirty_set.proofs.Edits.{kept_in}

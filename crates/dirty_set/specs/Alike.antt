@@ -2,7 +2,8 @@
 use Rattle.std.specs.Prelude.{◌≡◌, ℕ}
 use Rattle.ax_base.specs.Characters.{Chars}
 use Rattle.ax_dom.specs.Among.{is_in}
-use Rattle.dirty_set.specs.Reach.{Marked, is_text_in}
+use Rattle.dom_ids.specs.References.{is_text_in}
+use Rattle.dirty_set.specs.Reach.{Marked}
 
 -- Two marks have the same nodes, roots and texts, in any order and any number of times.
 pub record AreAlike (a b : Marked) : Type 0 where

@@ -1,7 +1,6 @@
 pub mod Reach
 pub mod Marking
 pub mod Alike
-pub mod Index
 pub mod Covers
 pub mod NodeSets
 pub mod Near

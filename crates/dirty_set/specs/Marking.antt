@@ -1,17 +1,17 @@
 -- The marks of an edit.
-use Rattle.std.specs.Prelude.{ℕ, Bool, not, ◌&&◌, codes, filter, flat_map, List, [], ◌++◌, Option, Some, None}
+use Rattle.std.specs.Prelude.{ℕ, Bool, not, ◌&&◌, filter, flat_map, List, [], ◌++◌, Option, Some, None}
 use Rattle.std.specs.Option.{option_eq, option_map_or}
 use mathlib.Core.Bool.{beq}
-use Rattle.ax_base.specs.declared.body.Body.{Body}
 use Rattle.ax_base.specs.declared.states.Live.{Live}
 use Rattle.ax_base.specs.contracts.states.LivePartialEq.TheImpl as lives
 use Rattle.ax_base.specs.Characters.{Chars}
-use Rattle.ax_base.specs.Document.{Document, Spot, spot, body, has, ids, parent, attr}
+use Rattle.ax_base.specs.Document.{Document, Spot, spot, body, has, ids, parent}
 use Rattle.ax_base.specs.Roles.{hides, prunes}
 use Rattle.ax_base.specs.States.{sets_live}
 use Rattle.ax_dom.specs.declared.edit.Edit.{Edit}
 use Rattle.ax_dom.specs.declared.edit.Edit.TheVariants.{InsertElement, InsertText, Remove, Move, Chars as NewChars, Set, Unset, SetRuns, Frame, Focus}
-use Rattle.dirty_set.specs.Reach.{Marked, listed, label_for, nodes_near}
+use Rattle.dom_ids.specs.References.{listed, carried}
+use Rattle.dirty_set.specs.Reach.{Marked, nodes_near}
 
 -- what a node hides, leaves out and sets by itself
 pub record Own : Type 0 where
@@ -111,10 +111,6 @@ left d e = option_map_or (λ n. listed (parent d n)) (unhung_by e) []
 -- the nodes of both documents that hide, leave out or set otherwise than before
 abbrev pub turned : Document → Document → List ℕ
 turned old now = filter (λ n. has old n && not (same_own (own old n) (own now n))) (ids now)
-
--- the texts by which a node is referred to, or a label refers
-abbrev pub carried : Body → List Chars
-carried b = listed (attr (codes "id") b) ++ listed (label_for b)
 
 -- the texts that some nodes carry
 abbrev pub carried_by_all : Document → List ℕ → List Chars

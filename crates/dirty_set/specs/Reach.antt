@@ -1,14 +1,13 @@
 -- What marks can reach in a document.
-use Rattle.std.specs.Prelude.{ℕ, Bool, true, false, ◌||◌, ◌&&◌, if◌then◌else◌, ◌+◌, nat_eq, bytes_eq, codes, take, filter, length, sum_by, List, [], ◌∷◌, ◌++◌, Option, Some, None}
+use Rattle.std.specs.Prelude.{ℕ, Bool, false, ◌||◌, ◌&&◌, ◌+◌, nat_eq, codes, filter, length, sum_by, List, [], ◌++◌}
 use Rattle.std.specs.List.{list_any}
 use Rattle.std.specs.Option.{option_map_or}
 use Rattle.ax_base.specs.declared.body.Body.{Body}
-use Rattle.ax_base.specs.declared.body.Body.TheVariants.{Element, Words}
-use Rattle.ax_base.specs.Attributes.{value_of}
-use Rattle.ax_base.specs.Characters.{Chars, tokens}
-use Rattle.ax_base.specs.Document.{Document, body, ids, children, lineage, attr, text_of, has_id}
+use Rattle.ax_base.specs.Characters.{Chars}
+use Rattle.ax_base.specs.Document.{Document, body, ids, children, lineage, attr, has_id}
 use Rattle.ax_base.specs.AccessibleNames.{is_label_for}
 use Rattle.ax_dom.specs.Among.{is_in, has_within}
+use Rattle.dom_ids.specs.References.{names_text, reference_tokens}
 
 -- marks: nodes, roots of what changed as a whole, and texts by which nodes refer to nodes
 pub record Marked : Type 0 where
@@ -28,10 +27,6 @@ no_marks = record { nodes = []; roots = []; texts = [] }
 abbrev pub joined_marks : Marked → Marked → Marked
 joined_marks a b = record { nodes = a.nodes ++ b.nodes; roots = a.roots ++ b.roots; texts = a.texts ++ b.texts }
 
--- whether a text is among some
-abbrev pub is_text_in : List Chars → Chars → Bool
-is_text_in xs x = list_any (bytes_eq x) xs
-
 -- whether a node is among some, or at or below one of the roots
 abbrev pub is_at_marks : List ℕ → List ℕ → Document → ℕ → Bool
 is_at_marks nodes roots d n = is_in nodes n || list_any (is_in roots) (lineage d n)
@@ -47,12 +42,6 @@ is_focus d n = option_map_or (nat_eq n) d.focus false
 -- whether a node is marked, at or below a marked root, or focused
 abbrev pub is_source : Document → Marked → ℕ → Bool
 is_source d m n = is_at_marks m.nodes m.roots d n || is_focus d n
-
--- whether the first eight tokens of `aria-labelledby` or `aria-describedby` have the text
-abbrev pub names_text : Chars → Body → Bool
-names_text x b =
-    is_text_in (take 8 (tokens (text_of (codes "aria-labelledby") b))) x
-    || is_text_in (take 8 (tokens (text_of (codes "aria-describedby") b))) x
 
 -- whether an element has the text as its `id`, refers to it, or is a `label` for it
 abbrev pub ties_to : Body → Chars → Bool
@@ -80,23 +69,6 @@ is_reached d m n = has_within d (is_touched d m) n
 -- the nodes that marks reach, by rising id
 abbrev pub reach : Document → Marked → List ℕ
 reach d m = filter (is_reached d m) (ids d)
-
--- what there is, as a list
-abbrev pub listed : {A : Type 0} → Option A → List A
-listed None = []
-listed (Some x) = x ∷ []
-
--- the `for` of a `label`
-abbrev pub label_for : Body → Option Chars
-label_for (Words chars runs) = None
-label_for (Element tag attrs frame) = if bytes_eq tag (codes "label") then value_of (codes "for") attrs else None
-
--- how many tokens a node refers by: the first eight of each attribute, and the `for` of a `label`
-abbrev pub reference_tokens : Body → ℕ
-reference_tokens b =
-    length (take 8 (tokens (text_of (codes "aria-labelledby") b)))
-    + length (take 8 (tokens (text_of (codes "aria-describedby") b)))
-    + length (listed (label_for b))
 
 -- what a node weighs
 abbrev pub weight_of : Document → ℕ → ℕ

@@ -2,8 +2,8 @@
 ghost use Rattle.std.specs.Prelude.{◌≡◌, ◌++◌, ◌≤◌, ◌+◌, ◌*◌, length, OnOk, codes, option_copied};
 ghost use Rattle.ax_base.specs.Document.{attr, body};
 ghost use Rattle.ax_base.specs.Trees.{IsTree};
-ghost use Rattle.dirty_set.specs.Reach.{label_for, listed};
-ghost use Rattle.dirty_set.specs.Marking.{carried, carried_near};
+ghost use Rattle.dom_ids.specs.References.{label_for, listed, carried};
+ghost use Rattle.dirty_set.specs.Marking.{carried_near};
 
 use crate::around::near;
 use ax_base::{Body, NoMemory, ObjId, Steps, Text};

@@ -7,16 +7,16 @@ ghost use Rattle.ax_dom.specs.Refusals.{edit_cause};
 ghost use Rattle.ax_dom.specs.Used.{is_used};
 ghost use Rattle.dirty_set.specs.Reach.{no_marks, joined_marks, marks_of, reach, weight};
 ghost use Rattle.dirty_set.specs.Marking.{marked};
-ghost use Rattle.dirty_set.specs.Index.{IsIndexOf};
+ghost use Rattle.dom_ids.specs.Index.{IsIndexOf};
 ghost use Rattle.dirty_set.specs.Alike.{AreAlike};
 ghost use Rattle.dirty_set.specs.Covers.{Covers};
 
-use crate::index::IdIndex;
 use crate::laws::marks_cover;
 use crate::noted::{marked_nodes, marked_roots, marked_texts};
 use crate::reach::reached;
 use ax_base::{Ids, NoMemory, ObjId, Steps, Text};
 use ax_dom::{Dom, Edit};
+use dom_ids::IdIndex;
 use std::alloc::Global;
 use std::marker::Model;
 use std::sync::ledger::Ledger;

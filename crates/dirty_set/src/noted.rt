@@ -5,7 +5,7 @@ ghost use Rattle.ax_base.specs.Trees.{IsTree};
 ghost use Rattle.ax_dom.specs.Changes.{edited};
 ghost use Rattle.ax_dom.specs.Refusals.{edit_cause};
 ghost use Rattle.ax_dom.specs.Used.{is_used};
-ghost use Rattle.dirty_set.specs.Reach.{listed};
+ghost use Rattle.dom_ids.specs.References.{listed};
 ghost use Rattle.dirty_set.specs.Marking.{key_of, into_of, put_by, taken_by, unhung_by, left, turned, own_at, own, same_own, marked_nodes, marked_roots, marked_texts};
 
 use crate::carried::add_carried_near;

@@ -2,7 +2,7 @@
 ghost use Rattle.std.specs.Prelude.{◌≡◌, ◌≤◌, ◌+◌, ◌*◌, ℕ, length, IfOk, OnOk};
 ghost use Rattle.std.specs.List.Sorted.{IsStrictlyIncreasing};
 ghost use Rattle.ax_base.specs.Trees.{IsTree};
-ghost use Rattle.dirty_set.specs.Index.{IsIndexOf};
+ghost use Rattle.dom_ids.specs.Index.{IsIndexOf};
 ghost use Rattle.dirty_set.specs.NodeSets.{IsUpClosed, KeepsAll};
 ghost use Rattle.dirty_set.specs.Reach.{marks_of, reach, weight};
 ghost use Rattle.dirty_set.specs.Reaching.{HasAllThat, OnlyFrom, IsTiedTo, IsTiedToSome, IsLabelOf, IsLabelOfSome, IsFocused};
@@ -10,9 +10,9 @@ ghost use Rattle.dirty_set.specs.Reaching.{HasAllThat, OnlyFrom, IsTiedTo, IsTie
 use crate::around::{climb_all, climb_known, near};
 use crate::carried::own_id;
 use crate::climb::NodeIds;
-use crate::index::IdIndex;
 use ax_base::{Ids, NoMemory, ObjId, Steps, Text};
 use ax_dom::Dom;
+use dom_ids::IdIndex;
 use std::alloc::Global;
 use std::sync::ledger::Ledger;
 

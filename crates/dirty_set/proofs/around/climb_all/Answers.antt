@@ -1,4 +1,4 @@
-use Rattle.std.proofs.Common.{◌+◌, ◌≤◌, arith}
+use Rattle.std.proofs.Common.{arith}
 use Rattle.dirty_set.proofs.Nearness.{climbed_more, climbed_only, climbed_all}
 use Rattle.dirty_set.proofs.around.climb_all.Goals as goal
 

@@ -1,5 +1,4 @@
-use Rattle.std.proofs.Common.{◌≡◌, ◌∙◌, ◌≤◌, ◌+◌, ◌*◌, length, ap, sym, subst, arith}
-use Rattle.dirty_set.specs.Reach.{nodes_near}
+use Rattle.std.proofs.Common.{◌≡◌, ◌∙◌, length, ap, sym, subst, arith}
 use Rattle.std.specs.List.Sorted.{IsStrictlyIncreasing}
 use Rattle.dirty_set.specs.Near.{ComesFrom, LiesBelow}
 use Rattle.dirty_set.proofs.Turning.{none_rises}

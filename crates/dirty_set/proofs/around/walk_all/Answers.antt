@@ -1,4 +1,4 @@
-use Rattle.std.proofs.Common.{◌+◌, ◌≤◌, arith}
+use Rattle.std.proofs.Common.{arith}
 use Rattle.dirty_set.proofs.Nearness.{walked_more, walked_only, walked_all}
 use Rattle.dirty_set.proofs.around.walk_all.Goals as goal
 

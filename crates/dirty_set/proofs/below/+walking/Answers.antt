@@ -1,4 +1,4 @@
-use Rattle.std.proofs.Common.{◌+◌, ◌≤◌, sym, arith}
+use Rattle.std.proofs.Common.{arith}
 use Rattle.ax_base.specs.Document.{IsChild}
 use Rattle.ax_dom.proofs.Walks.{child_of, descends}
 use Rattle.dirty_set.proofs.Walking.{walked_within, walk_first, walk_more, walk_closed, walk_within, call_closed, early_only}

@@ -1,4 +1,3 @@
-use Rattle.std.proofs.Common.{sym}
 use Rattle.dirty_set.proofs.Keeping.{covers_after}
 use Rattle.dirty_set.proofs.laws.marks_cover.Goals as goal
 

@@ -1,5 +1,5 @@
 use Rattle.std.proofs.Common.{ap, ◌∙◌, ◌++◌}
-use Rattle.dirty_set.specs.Reach.{listed}
+use Rattle.dom_ids.specs.References.{listed}
 use Rattle.dirty_set.specs.Marking.{key_of, into_of, left}
 use Rattle.dirty_set.proofs.Noting.{nodes_are}
 use Rattle.dirty_set.proofs.noted.marked_nodes.Goals as goal

@@ -1,6 +1,6 @@
 use Rattle.std.proofs.Common.{ap, ◌∙◌, ◌++◌}
-use Rattle.dirty_set.specs.Reach.{listed}
-use Rattle.dirty_set.specs.Marking.{put_by, turned}
+use Rattle.dom_ids.specs.References.{listed}
+use Rattle.dirty_set.specs.Marking.{turned}
 use Rattle.dirty_set.proofs.noted.marked_roots.Goals as goal
 
 pub returns : goal.returns

@@ -1,6 +1,6 @@
-use Rattle.std.proofs.Common.{ap, ◌∙◌, ◌++◌}
-use Rattle.dirty_set.specs.Reach.{listed}
-use Rattle.dirty_set.specs.Marking.{taken_by, carried_near, marked_roots}
+use Rattle.std.proofs.Common.{◌∙◌, ◌++◌}
+use Rattle.dom_ids.specs.References.{listed}
+use Rattle.dirty_set.specs.Marking.{carried_near}
 use Rattle.dirty_set.proofs.noted.marked_texts.Goals as goal
 
 pub returns : goal.returns

@@ -1,5 +1,5 @@
 use Rattle.std.proofs.Common.{ap, ◌∙◌}
-use Rattle.dirty_set.specs.Index.{labels}
+use Rattle.dom_ids.specs.Index.{labels}
 use Rattle.dirty_set.proofs.Reachings.{own_all, own_only}
 use Rattle.dirty_set.proofs.reach.climb_own_labels.Goals as goal
 

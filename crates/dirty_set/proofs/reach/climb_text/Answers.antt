@@ -1,5 +1,5 @@
 use Rattle.std.proofs.Common.{ap, ◌∙◌}
-use Rattle.dirty_set.specs.Index.{carriers, namers, labels}
+use Rattle.dom_ids.specs.Index.{carriers, namers, labels}
 use Rattle.dirty_set.specs.Reaching.{IsTiedTo}
 use Rattle.dirty_set.proofs.Reachings.{known_as, only_as, only_listed, only_then, carrier_tied, namer_tied, text_all, text_only}
 use Rattle.dirty_set.proofs.reach.climb_text.Goals as goal

@@ -1,5 +1,5 @@
 use Rattle.std.proofs.Common.{arith}
-use Rattle.dirty_set.proofs.Reachings.{tied_more, tied_only, tied_all, tied_first}
+use Rattle.dirty_set.proofs.Reachings.{tied_more, tied_only}
 use Rattle.dirty_set.proofs.reach.climb_tied.Goals as goal
 
 pub returns-in_err-climb_text-clause-only : goal.returns-in_err-climb_text-clause-only

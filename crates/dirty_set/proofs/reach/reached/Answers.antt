@@ -1,4 +1,4 @@
-use Rattle.std.proofs.Common.{◌≡◌, ◌∙◌, ◌≤◌, ◌+◌, ◌*◌, length, ap, arith}
+use Rattle.std.proofs.Common.{◌≡◌, ◌∙◌, length, ap, arith}
 use Rattle.dirty_set.specs.Reach.{marks_of, nodes_near}
 use Rattle.dirty_set.proofs.Arriving.{near_closed, near_rises, few_near, few_focus, few_texts, few_labels, all_reached, reach_is}
 use Rattle.dirty_set.proofs.reach.reached.Goals as goal

@@ -1,4 +1,4 @@
-use Rattle.std.proofs.Common.{sym, arith}
+use Rattle.std.proofs.Common.{sym}
 use Rattle.ax_dom.proofs.Walks.{ascends}
 use Rattle.dirty_set.proofs.Climbing.{climb_first, climb_more, end_closed, top_closed, more_added, more_rises, more_keeps, more_only, more_counted}
 use Rattle.dirty_set.proofs.climb.NodeIds.climb.Goals as goal

@@ -1,4 +1,3 @@
-use Rattle.std.proofs.Common.{◌-◌}
 use Rattle.ax_base.specs.Document.{depth}
 use Rattle.dirty_set.proofs.Climbing.{Climbing}
 use Rattle.dirty_set.proofs.climb.NodeIds.climb.Given as goal
