@@ -1,9 +1,10 @@
 #!/usr/bin/env python3
-"""What a program does at its edges: words that are no command, input that cannot be read, output that has no room.
+"""What a program does at its edges: words that are no command, input that cannot be read or ends early, output that has no room.
 
     model/edges.py PROGRAM
 
-PROGRAM is an axcore program. Each run has a status to end with and a text that must be out by then. Where the words are no
+PROGRAM is an axcore program. Each front of a story is an input, and output has room for each number of bytes up to the whole text.
+Each run has a status to end with and a text that must be out by then. Where the words are no
 command, nothing may be read either. Nothing is ever written to standard error. It ends with status 1 if a run ends otherwise.
 """
 import os
@@ -17,6 +18,7 @@ STORY = b'{"insert":2,"into":1,"tag":"button","attrs":{"aria-label":"Save"}}\n{"
 TEXTS = {"dump": b'1 0 document ""\n2 1 button "Save"\nend 0\n', "replay": b'#1 @0 name "Save"\nend 0\n', "run": b'#1 @0 name "Save"\nend 0\n'}
 BROKEN, REFUSAL = STORY + b'{"focus":9}\n', b"refused 4 NoNode\n"
 NO_COMMANDS = [[], [""], ["Dump"], ["dump "], ["--help"], ["dump", "x"], ["replay", "replay"]]
+START, HOOKS = b'{"start":1}', b"[" * 200
 FOLDER, FULL, UNREAD = "a folder", "a full device", "a pipe that nobody reads"
 
 
@@ -62,6 +64,23 @@ def ended(program, words, source, sink):
     return found
 
 
+def fronts(command):
+    """Each proper front of a story, without its client's line, and what it must be answered with.
+
+    The line in which it ends is no JSON where it isn't whole. Where it is whole but for its line feed, the story is as with it.
+    """
+    story = STORY[:STORY.index(START) + len(START)] + b"\n"
+    for length in range(len(story)):
+        front = story[:length]
+        line, rest = front.count(b"\n") + 1, front.split(b"\n")[-1]
+        if rest and rest not in story.split(b"\n"):
+            yield front, REFUSED, b"refused %d BadJson\n" % line
+        elif rest == START:
+            yield front, DONE, TEXTS["dump"] if command == "dump" else b"end 0\n"
+        else:
+            yield front, REFUSED, b"refused 0 NoStart\n"
+
+
 def runs():
     """Each run: its title, words, source and sink, its status and text, and how much is read, where that is told."""
     for words in NO_COMMANDS:
@@ -71,6 +90,9 @@ def runs():
         words = [command]
         yield "a story", words, STORY, None, DONE, text, len(STORY)
         yield "a refused story", words, BROKEN, None, REFUSED, REFUSAL, len(BROKEN)
+        for front, status, due in fronts(command):
+            yield "the first %d bytes of a story" % len(front), words, front, None, status, due, len(front)
+        yield "a line of hooks", words, HOOKS, None, REFUSED, b"refused 1 BadJson\n", len(HOOKS)
         yield "a story that is too long", words, b" " * 16777300, None, REFUSED, b"refused 0 StoryTooLong\n", None
         for sink in (None, FULL):
             yield "a folder as input", words, FOLDER, sink, READ_FAULT, b"", None
@@ -78,7 +100,7 @@ def runs():
             yield "a full device as output", words, story, FULL, WRITE_FAULT, b"", len(story)
             yield "output that nobody reads", words, story, UNREAD, WRITE_FAULT, b"", len(story)
         for story, whole, status in (STORY, text, DONE), (BROKEN, REFUSAL, REFUSED):
-            for room in (0, 1, len(whole) - 1):
+            for room in range(len(whole)):
                 yield "output with room for %d bytes" % room, words, story, room, WRITE_FAULT, whole[:room], len(story)
             yield "output with room for all", words, story, len(whole), status, whole, len(story)
 
