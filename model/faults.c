@@ -68,18 +68,18 @@ static void wait_a_little(void) {
     if ((drawn >> 20) % told->every)
         return;
     add(&told->waits, 1);
-    if (kind > 5) {
+    struct timespec some = {0, (long)length * 500};
+    if (kind == 7) {
         syscall(SYS_sched_yield);
-    } else if (kind > 2) {
+    } else if (kind > 3) {
         for (volatile uint64_t round = 0; round < length * 16; round++) {
         }
     } else if (kind > 1) {
-        struct timespec some = {0, (long)length * 500};
         nanosleep(&some, NULL);
     } else {
         uint64_t other = mine == 1 ? 2 : 1, until = look(&steps[other]) + 1 + length % 16;
         for (int round = 0; round < 20 && look(&steps[other]) < until; round++)
-            syscall(SYS_sched_yield);
+            nanosleep(&some, NULL);
     }
 }
 

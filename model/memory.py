@@ -121,7 +121,7 @@ class Trial:
 
     def __init__(self, program, faults, seed, count):
         self.program, self.faults, self.random, self.count = program, faults, random.Random(seed), count
-        self.allocations = self.runs = self.failed = 0
+        self.allocations = self.failed = 0
         self.met = {"no memory": 0, "as with ample memory": 0, "no words": 0}
 
     def fail(self, title, why):
@@ -159,7 +159,6 @@ class Trial:
         self.allocations += total
         for number in self.numbers(total):
             for for_good in (0, 1):
-                self.runs += 1
                 what = "%s, allocation %d of %d refused%s" % (title, number, total, " and all after it" if for_good else "")
                 try:
                     ended = self.faults.run([self.program, *words], source, refuse=number, for_good=for_good)
@@ -188,7 +187,7 @@ def main():
         trial.refuse(title, words, source)
         stories += 1
     print("memory: %d runs, of %d commands with %d allocations, as they must be, %d otherwise (%s)" % (
-        trial.runs - trial.failed, stories, trial.allocations, trial.failed, ", ".join("%s %d" % item for item in trial.met.items())))
+        sum(trial.met.values()), stories, trial.allocations, trial.failed, ", ".join("%s %d" % item for item in trial.met.items())))
     sys.exit(1 if trial.failed or not trial.met["no memory"] else 0)
 
 

@@ -8,8 +8,9 @@ cut, doubled, swapped, joined and split, numbers get huge or get another form, v
 surrogates and NULs, keys are written twice, stretches of bytes are cut, doubled and moved over the ends of lines, lines of another
 story are put between, and now and then a line gets up to 16 MB, or a value of up to 500,000 bytes of small ones. What `dump` and `replay`
 write, and their status, must be the model's. Of each run the memory is counted that it holds at once (faults.py): it must be at most
-256 KiB and 200 bytes for each byte of the input and of the text. It ends with status 1 at the first input that is answered
-otherwise or takes more, and leaves it in a file. Without a C compiler memory is not counted, as it says.
+256 KiB, 200 bytes for each byte of the input and of the text, and 128 bytes times the greatest number below 131,072 in the input,
+as nodes with such an id stand in tables that long. It ends with status 1 at the first input that is answered otherwise or takes
+more, and leaves it in a file. Without a C compiler memory is not counted, as it says.
 """
 import os
 import re
@@ -38,7 +39,14 @@ LINES = (b"", b" ", b"\r", b"\t \r", b"\x0b", b"\x00", b"{}", b"[]", b"null", b"
          b'{"until":1}', b'{"await":1}', b'{"hear":true}', b'{"notices":true}')
 DEPTHS = (1, 126, 127, 128, 129, 1000, 100000)
 SMALL_VALUES = (b'1,', b'[],', b'{},', b'[1],', b'"",', b'{"":1},', b'{"":' * 100 + b'1' + b'}' * 100 + b',')
-MOST_HELD, FOR_A_BYTE, LARGE = 1 << 18, 200, 1 << 16
+ID = re.compile(rb"(?<![0-9])[0-9]{1,6}(?![0-9])")
+MOST_HELD, FOR_A_BYTE, FOR_AN_ID, NEAR, LARGE = 1 << 18, 200, 128, 131072, 1 << 16
+
+
+def most_held(source, text):
+    """How many bytes a run with this input and this text may hold at once."""
+    ids = [number for number in map(int, set(ID.findall(source))) if number < NEAR]
+    return MOST_HELD + FOR_A_BYTE * (len(source) + len(text)) + FOR_AN_ID * max(ids, default=0)
 
 
 class Mutator(Words):
@@ -173,7 +181,7 @@ class Comparison:
         if (written, found) != (text.encode(), status):
             self.fail(command, source, "status %d and %r for %d and %r" % (found, written[:300], status, text[:300]))
         size = len(source) + len(written)
-        if held > MOST_HELD + FOR_A_BYTE * size:
+        if held > most_held(source, written):
             self.fail(command, source, "%d bytes held for %d of input and text" % (held, size))
         self.most = max(self.most, held)
         if size >= LARGE:

@@ -4,10 +4,10 @@
     model/waits.py PROGRAM [SEED [STORIES [SEEDS]]]
 
 PROGRAM is an axcore program. By the library of faults.py each of its threads now and then lets others go first, goes round for a
-while, sleeps, or holds until the other thread has gone on; where, and for how long, is drawn from a seed, some hundred times in a
-run. The stories are random and accepted, of 10 to 400 lines, and every eighth has some hundred moments: 20 of them, if no number is
-given, each by 2 seeds. With each seed a story is run on all processors and on one alone. Each transcript must be one that the story
-allows, and each run must end in five minutes. Before that the story is run where no second thread can be had, which must give
+while, sleeps, or holds until the other thread has gone on; where, and for how long, is drawn from a seed, some dozens of times in a
+run. The stories are random and accepted, of 10 to 400 lines, and every eighth has some hundred moments: 20 of them, if no number
+is given, each by 2 seeds. With each seed a story is run on all processors and on one alone. Each transcript must be one that the
+story allows, and each run must end in five minutes. Before that the story is run where no second thread can be had, which must give
 alternate turns, the page first and without the turn list. At the first run that ends otherwise the story and the transcript are
 printed, and it ends with status 1. Without a C compiler nothing is tried, as it says.
 """
@@ -21,7 +21,7 @@ from makers import ThreadedMaker
 from plays import Story
 from schedules import LENGTHS, fail
 
-COUNTED, LONGEST_RUN, WAITS = 300, 300, 60
+COUNTED, LONGEST_RUN, WAITS = 300, 300, 40
 
 
 class Runs:
