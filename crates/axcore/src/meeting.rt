@@ -101,6 +101,7 @@ const WAITS: &str =
     "{\"insert\":2,\"into\":1,\"tag\":\"button\"}\n{\"insert\":3,\"into\":2,\"text\":\"Save\"}\n{\"start\":1}\n{\"text\":3,\"to\":\"B\"}\n{\"flush\":true}\n{\"until\":1}\n{\"text\":3,\"to\":\"C\"}\n{\"flush\":true}\n{\"until\":2}\n{\"focus\":2}\n{\"flush\":true}\n{\"await\":1}\n{\"again\":{\"q\":\"name\",\"id\":2}}\n{\"await\":2}\n{\"again\":{\"q\":\"role\",\"id\":9}}\n{\"await\":3}\n{\"notices\":true}\n";
 
 /// Comes late by so many yields at each turn as a pattern says that a seed begins.
+#[derive(Drop)]
 struct Delays {
     seed: u64,
 }
