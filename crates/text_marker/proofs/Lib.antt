@@ -5,6 +5,10 @@ pub mod Places
 pub mod Texts
 pub mod Moving
 pub mod Wording
+pub mod Ahead
+pub mod Branches
+pub mod Depths
+pub mod Climbing
 pub mod Order
 pub mod Stretches
 pub mod Going

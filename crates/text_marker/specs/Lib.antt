@@ -3,3 +3,4 @@ pub mod Markers
 pub mod Lines
 pub mod Ranges
 pub mod Answers
+pub mod Ancestors

@@ -1,6 +1,7 @@
 //! Text markers: their order, their moves, their lines, and the text and the bounds of ranges.
 #![tactic(auto)]
 
+mod ancestors;
 mod bounds;
 mod contents;
 mod errors;

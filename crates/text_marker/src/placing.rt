@@ -1,20 +1,20 @@
 //! The order of markers.
-ghost use Rattle.std.specs.Prelude.{◌≡◌, ◌==◌, Bool, true, nat_lt, IfOk, IfErr, Some, None, Ok};
-ghost use Rattle.ax_record.specs.declared.record.Record.{Record};
+ghost use Rattle.std.specs.Prelude.{◌≡◌, true, nat_lt, IfOk, IfErr, Some, None, Ok};
 ghost use Rattle.ax_record.specs.ObjectTrees.{IsObjectTree};
 ghost use Rattle.text_order.specs.Texts.{is_text, place};
 ghost use Rattle.text_marker.specs.Markers.{is_above, placing};
 ghost use Rattle.text_marker.specs.Answers.{refusal_of_both, answered_both};
 
 use crate::MarkError;
+use crate::ancestors::precedes;
 use crate::standing::object_of;
 use ax_ask::{Marker, Placing};
 use ax_base::ObjId;
-use ax_record::{Record, TreeView, Wanted, first_after};
-use std::convert::Infallible;
+use ax_record::TreeView;
 
-/// Where a marker stands, seen from another: by the places of their texts, and in one text by their offsets. It takes no memory
-/// and never answers `NoMemory`.
+/// Where a marker stands, seen from another: by the places of their texts, and in one text by their offsets. It climbs from both
+/// texts to their lowest common ancestor, at most 64 levels, and goes over the kids of that one once. It takes no memory and
+/// never answers `NoMemory`.
 pub fn compare<T: TreeView>(t: &T, a: Marker, b: Marker) -> Result<Placing, MarkError>
     ensures { result ≡ answered_both (T.tree t.now) a b (Ok (placing (T.tree t.now) a b)) }
 {
@@ -27,16 +27,17 @@ pub fn compare<T: TreeView>(t: &T, a: Marker, b: Marker) -> Result<Placing, Mark
 fn placing_of<T: TreeView>(t: &T, a: Marker, b: Marker) -> Placing
     requires a_text { is_text (T.tree t.now) a.id ≡ true }
     requires b_text { is_text (T.tree t.now) b.id ≡ true }
+    requires is_tree { IsObjectTree (T.tree t.now) }
     ensures { result ≡ placing (T.tree t.now) a b }
 {
     let (first, second) = (a, b);
     if is_below(t, first, second) {
         return Placing::Before;
     }
-    if is_below(t, b, a) {
-        return Placing::After;
+    if a.id == b.id && a.offset == b.offset {
+        return Placing::Same;
     }
-    Placing::Same
+    Placing::After
 }
 
 /// Refuses two markers one of which is stale, and else those one of which is out.
@@ -66,30 +67,11 @@ pub(crate) fn is_below<T: TreeView>(t: &T, a: Marker, b: Marker) -> bool
     }
 }
 
-/// One object is looked for.
-#[derive(Drop)]
-struct Sought {
-    id: ObjId,
-}
-
-impl Wanted for Sought {
-    type Error = Infallible;
-
-    ghost wants = { λ s r. r.id == s.id };
-
-    fn is_wanted(&self, object: &Record) -> Result<bool, Infallible> {
-        Ok(object.id.number() == self.id.number())
-    }
-}
-
-/// Whether a text object comes before another. It walks from the one to the other, or to the end.
+/// Whether a text object comes before another.
 fn comes_before<T: TreeView>(t: &T, a: ObjId, b: ObjId) -> bool
     requires a_text { is_text (T.tree t.now) a ≡ true }
     requires b_text { is_text (T.tree t.now) b ≡ true }
     ensures { result ≡ nat_lt (place (T.tree t.now) a) (place (T.tree t.now) b) }
 {
-    match first_after(t, &Sought { id: b }, a) {
-        Ok(found) => found.is_some(),
-        Err(never) => match never {},
-    }
+    precedes(t, a, b)
 }
