@@ -1,0 +1,4 @@
+pub mod Alike
+pub mod Lost
+pub mod Candidates
+pub mod Splices
