@@ -7,7 +7,8 @@ PROGRAM is an axcore program. Each story is a page of lists with 200 to 1,000 it
 ids and `for` values wander between elements, references and labels change their targets, sections hide and show, begin and
 end to be ignored or to prune, texts turn blank, subtrees are moved, also out and back within one flush. Flushes have no edit,
 a few or many. At most moments the client asks about what differs from the moment that it had before, about what is gone, and
-about some other objects; each flush's notices are listed. It ends with status 1 at the first story that is answered
+about some other objects; in every third story it takes one moment in forty, so that some forty batches are merged before one is
+patched in, and what is asked compares that with trees built afresh at each flush. Each flush's notices are listed. It ends with status 1 at the first story that is answered
 otherwise, names the first line that differs, and leaves the story in a file.
 """
 import json
@@ -40,6 +41,7 @@ ITEMS = ("li", "li", "a", "button", "input", "label", "img", "p", "h2", "span", 
 PROPERTIES = [word for word in ABOUT_AN_OBJECT if word != "children"]
 MOST_CLIENT_LINES = 15000
 FLUSHES_OF_A_STORY = 250
+SHARE_OF_A_CLIENT, SHARE_OF_A_SLOW_CLIENT = 0.75, 0.025
 
 
 class Page(Words):
@@ -284,12 +286,12 @@ def differing_words(old, new):
     return [word for word in words if word in ABOUT_AN_OBJECT]
 
 
-def made(seed, flushes):
-    """A story of so many flushes."""
+def made(seed, flushes, share):
+    """A story of so many flushes, of which the client takes this share."""
     told = Told(seed)
     while told.moment < flushes and told.asked < MOST_CLIENT_LINES - 100:
         told.flush()
-        if told.page.chance(0.75):
+        if told.page.chance(share):
             told.look()
     told.look()
     told.all_objects()
@@ -316,7 +318,8 @@ def main():
     seed, wanted = int(sys.argv[2]) if len(sys.argv) > 2 else 1, int(sys.argv[3]) if len(sys.argv) > 3 else 500
     stories = flushes = looked = asked = 0
     while flushes < wanted:
-        told = made("%d-%d" % (seed, stories), min(FLUSHES_OF_A_STORY, wanted - flushes))
+        share = SHARE_OF_A_SLOW_CLIENT if stories % 3 == 1 else SHARE_OF_A_CLIENT
+        told = made("%d-%d" % (seed, stories), min(FLUSHES_OF_A_STORY, wanted - flushes), share)
         compare(sys.argv[1], "%d-%d" % (seed, stories), told)
         stories, flushes, looked, asked = stories + 1, flushes + told.moment, looked + told.looked, asked + told.asked
     print("flushes: %d of %d stories as the model has them; the client asked at %d moments, in %d lines" % (flushes, stories, looked, asked))

@@ -1,6 +1,7 @@
 //! A batch of changes.
-ghost use Rattle.std.specs.Prelude.{◌≡◌, [], ◌++◌, ◌∷◌, OnOk, OnErr};
+ghost use Rattle.std.specs.Prelude.{◌≡◌, [], ◌++◌, ◌∷◌, IfOk, OnOk, OnErr};
 
+use crate::props::copy_props;
 use ax_base::{Ids, NoMemory, ObjId};
 use ax_record::{PropList, Record};
 use std::alloc::Global;
@@ -40,11 +41,36 @@ impl Records {
         }
     }
 
+    /// These records. It takes no memory.
+    pub fn from_vec(items: Vec<Record>) -> Records
+        ensures { result ≡ items.items }
+    {
+        Records { items }
+    }
+
+    /// The records in their order.
+    pub fn as_slice(&self) -> &[Record]
+        ensures { result.now ≡ self.now }
+    {
+        self.items.as_slice()
+    }
+
     /// The records as a `Vec`. It takes no memory.
     pub fn into_vec(self) -> Vec<Record>
         ensures { result.items ≡ self }
     {
         self.items
+    }
+
+    /// Equal records.
+    pub fn copy(&self, alloc: Global) -> Result<Records, NoMemory>
+        ensures { IfOk result (λ copy. copy ≡ self.now) }
+    {
+        let mut copy = Records::new(alloc);
+        for object in self.as_slice() {
+            copy.push(object.copy(alloc)?)?;
+        }
+        Ok(copy)
     }
 
     /// Adds a record at the end. At an error nothing changes.
@@ -82,11 +108,40 @@ impl Changes {
         }
     }
 
+    /// These changes. It takes no memory.
+    pub fn from_vec(items: Vec<Change>) -> Changes
+        ensures { result ≡ items.items }
+    {
+        Changes { items }
+    }
+
+    /// The changes in their order.
+    pub fn as_slice(&self) -> &[Change]
+        ensures { result.now ≡ self.now }
+    {
+        self.items.as_slice()
+    }
+
     /// The changes as a `Vec`. It takes no memory.
     pub fn into_vec(self) -> Vec<Change>
         ensures { result.items ≡ self }
     {
         self.items
+    }
+
+    /// Equal changes.
+    pub fn copy(&self, alloc: Global) -> Result<Changes, NoMemory>
+        ensures { IfOk result (λ copy. copy ≡ self.now) }
+    {
+        let mut copy = Changes::new(alloc);
+        for change in self.as_slice() {
+            let props = copy_props(alloc, &change.props)?;
+            copy.push(Change {
+                id: change.id,
+                props,
+            })?;
+        }
+        Ok(copy)
     }
 
     /// Adds a change at the end. At an error nothing changes.
@@ -110,4 +165,18 @@ pub struct Batch {
     pub removed: Ids,
     /// The focus of the second, where it is not that of the first.
     pub focus: Option<Option<ObjId>>,
+}
+
+impl Batch {
+    /// An equal batch.
+    pub fn copy(&self, alloc: Global) -> Result<Batch, NoMemory>
+        ensures { IfOk result (λ copy. copy ≡ self.now) }
+    {
+        Ok(Batch {
+            added: self.added.copy(alloc)?,
+            changed: self.changed.copy(alloc)?,
+            removed: self.removed.copy(alloc)?,
+            focus: self.focus,
+        })
+    }
 }

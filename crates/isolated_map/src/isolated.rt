@@ -1,18 +1,18 @@
 //! A tree that is kept up to date by batches.
-ghost use Rattle.std.specs.Prelude.{◌≡◌, ◌++◌, IfOk, OnOk, None, option_copied, unwrap_or};
+ghost use Rattle.std.specs.Prelude.{◌≡◌, IfOk, OnOk, None, option_copied, unwrap_or};
 ghost use Rattle.std.specs.List.{flat_map};
 ghost use Rattle.ax_base.specs.Document.{root};
 ghost use Rattle.ax_record.specs.Tree.{Tree, record_at, made_at};
 ghost use Rattle.ax_record.specs.ObjectTrees.{IsObjectTree};
 ghost use Rattle.ax_batch.specs.Batches.{added_at, with_added, patched};
-ghost use Rattle.change_log.specs.Logs.{patched_by, notices_in, FitsAll};
-ghost use Rattle.isolated_map.specs.Rising.{no_tree};
+ghost use Rattle.change_log.specs.Logs.{patched_by, notices_in, MayPatch};
+ghost use Rattle.isolated_map.specs.NoTree.{no_tree};
 
 use crate::records::IndexedRecords;
 use ax_base::{NoMemory, Notices, ObjId};
 use ax_batch::Batch;
 use ax_record::{Record, TreeView, rising_ids};
-use change_log::ChangeLog;
+use change_log::{ChangeLog, LogEntries};
 use std::alloc::Global;
 use std::marker::Model;
 
@@ -66,19 +66,15 @@ impl Isolated {
         })
     }
 
-    /// The tree after all batches of a log, and the log's notices. It costs what the log has, and never walks the tree. At
-    /// `Err` both are given up.
-    pub fn patch(self, alloc: Global, log: ChangeLog) -> Result<(Isolated, Notices), NoMemory>
-        requires { FitsAll self log }
+    /// The tree after the batch of a log, and the log's notices. It costs what the log has, and never walks the tree. At `Err`
+    /// both are given up.
+    pub fn patch(self, log: ChangeLog) -> Result<(Isolated, Notices), NoMemory>
+        requires { MayPatch self log }
         ensures tree { IfOk result (λ r. r.0 ≡ patched_by self log) }
         ensures notices { IfOk result (λ r. r.1 ≡ notices_in log) }
     {
-        let mut tree = self;
-        let mut notices = Notices::new(alloc);
-        for entry in log.into_entries() {
-            tree = tree.after(entry.batch)?;
-            notices.extend(entry.notices)?;
-        }
+        let LogEntries { batch, notices } = log.into_entries();
+        let tree = self.after(batch)?;
         Ok((tree, notices))
     }
 
