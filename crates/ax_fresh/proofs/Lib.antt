@@ -1,3 +1,3 @@
-mod Put
+pub mod Put
 mod Gathered
-mod Above
+pub mod Above

@@ -7,5 +7,6 @@ mod frames;
 mod uncounted;
 mod walk;
 
+pub use content::record_of;
 pub use uncounted::tree_of;
 pub use walk::build;

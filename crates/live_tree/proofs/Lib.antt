@@ -1,1 +1,4 @@
-pub mod Differing
+pub mod Reached
+pub mod Remaking
+pub mod Flushing
+pub mod Turning

@@ -1,1 +1,3 @@
 pub mod LiveTrees
+pub mod Living
+pub mod Remaking

@@ -2,5 +2,7 @@
 #![tactic(auto)]
 
 mod live;
+mod passes;
+mod renewing;
 
 pub use live::{Flushed, LiveTree, flush_uncounted};

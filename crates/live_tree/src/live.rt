@@ -1,6 +1,7 @@
 //! The document of the page, and its tree at the last flush.
 ghost use Rattle.std.specs.Prelude.{◌≡◌, ◌<◌, IfOk, IfErr, OnOk, OnErr, None, Some, if◌then◌else◌, option_copied};
-ghost use Rattle.ax_base.specs.Document.{root};
+ghost use Rattle.ax_base.specs.Document.{Document, root};
+ghost use Rattle.ax_base.specs.Trees.{IsTree};
 ghost use Rattle.ax_dom.specs.Bounds.{EditKeepsBounds};
 ghost use Rattle.ax_dom.specs.Changes.{edited};
 ghost use Rattle.ax_dom.specs.Refusals.{edit_cause, is_no_memory};
@@ -8,23 +9,39 @@ ghost use Rattle.ax_record.specs.Tree.{Tree, record_at};
 ghost use Rattle.ax_record.specs.ObjectTrees.{IsObjectTree};
 ghost use Rattle.ax_record.specs.Records.{tree};
 ghost use Rattle.ax_batch.specs.Batches.{batch_between};
+ghost use Rattle.ax_notice.specs.Candidates.{AreCandidates};
 ghost use Rattle.ax_notice.specs.Notices.{notices_between};
+ghost use Rattle.tree_diff.specs.Candidates.{HaveAllDiffering};
+ghost use Rattle.dirty_set.specs.Reach.{joined_marks};
+ghost use Rattle.dirty_set.specs.Marking.{marked};
+ghost use Rattle.dirty_set.specs.Alike.{AreAlike};
+ghost use Rattle.dirty_set.specs.Covers.{Covers};
+ghost use Rattle.ctx_pass.specs.Contexts.{AreContextsOf};
+ghost use Rattle.kids_pass.specs.Kids.{AreKidsOf};
+ghost use Rattle.live_tree.specs.LiveTrees.{unmarked};
+ghost use Rattle.live_tree.specs.Living.{IsRightBut};
 
-use ax_base::{Moment, NoMemory, Notices, ObjId, Steps};
-use ax_batch::{Batch, batch_between};
+use crate::passes::{Passes, passes_uncounted};
+use crate::renewing::renewed_tree;
+use ax_base::{Ids, Moment, NoMemory, Notices, ObjId, Steps};
+use ax_batch::Batch;
 use ax_dom::{Dom, Edit, EditCause};
-use ax_fresh::{build, tree_of};
-use ax_notice::notices_between;
-use ax_record::{FreshTree, Record, TreeView};
+use ax_fresh::tree_of;
+use ax_notice::notices_among;
+use ax_record::{Record, TreeView};
+use kept_tree::{KeptTree, RenewedTree};
+use marked_dom::MarkedDom;
 use std::alloc::Global;
 use std::marker::{Brand, Model};
 use std::sync::ledger::{Blank, Ledger};
+use tree_diff::batch_among;
 
 /// A document that is edited, and the tree that it had at the last flush. As a view it is that tree.
 #[derive(Drop)]
 pub struct LiveTree {
-    flushed: FreshTree,
-    document: Dom,
+    flushed: KeptTree,
+    dom: MarkedDom,
+    passes: Passes,
 }
 
 /// What a flush hands on: what differs from the tree before to the tree after, and what is told of it.
@@ -38,10 +55,14 @@ pub struct Flushed {
 
 impl Model for LiveTree {
     ghost use Rattle.live_tree.specs.LiveTrees.{LiveDocument};
+    ghost use Rattle.marked_dom.specs.Marked.{MarkedDocument};
+    ghost use Rattle.live_tree.specs.Living.{IsLive};
 
     ghost Value = { LiveDocument };
 
-    ghost view = { λ t. record { flushed = t.flushed; document = t.document } };
+    ghost view = { λ t. record { flushed = t.flushed; document = t.dom.document; marks = t.dom.marks } };
+
+    ghost invariant = { λ t. IsLive t.flushed t.dom t.passes.contexts t.passes.kids };
 }
 
 impl TreeView for LiveTree {
@@ -63,26 +84,34 @@ impl TreeView for LiveTree {
 impl LiveTree {
     /// A document with its own tree.
     pub fn new(alloc: Global, dom: Dom) -> Result<LiveTree, NoMemory>
-        ensures { IfOk result (λ t. t ≡ record { flushed = tree dom; document = dom }) }
+        ensures { IfOk result (λ t. t ≡ unmarked (tree dom) dom) }
     {
-        let flushed = tree_of(alloc, &dom)?;
+        let flushed = KeptTree::copy_of(alloc, &tree_of(alloc, &dom)?)?;
+        let passes = passes_uncounted(alloc, &dom)?;
+        dom.keeps_tree();
         Ok(LiveTree {
             flushed,
-            document: dom,
+            dom: MarkedDom::new(alloc, dom),
+            passes,
         })
     }
 
-    /// Edits the document, and leaves the tree of the last flush. It is refused with the first cause that holds, exactly
+    /// Edits the document, adds the marks of the edit, and leaves the tree of the last flush. It is refused with the first cause that holds, exactly
     /// where one holds, and for want of memory only where none does; then nothing changes. The rectangles of the edit
     /// are within bounds.
     pub fn edit(&mut self, alloc: Global, e: &Edit) -> Result<(), EditCause>
         requires within { EditKeepsBounds e.now }
         ensures accepted { OnOk result (edit_cause self.old.document e.now ≡ None) }
-        ensures ok { OnOk result (self.new ≡ record { flushed = self.old.flushed; document = edited self.old.document e.now }) }
+        ensures ok { OnOk result (self.new ≡ record { flushed = self.old.flushed; document = edited self.old.document e.now; marks = self.new.marks }) }
+        ensures marks { OnOk result (AreAlike (joined_marks self.old.marks (marked self.old.document (edited self.old.document e.now) e.now)) self.new.marks) }
         ensures refused { IfErr result (λ cause. edit_cause self.old.document e.now ≡ (if is_no_memory cause then None else Some cause)) }
         ensures err { OnErr result (self.new ≡ self.old) }
     {
-        self.document.apply(alloc, e)
+        if let Some(cause) = self.dom.document().cause_of(e) {
+            return Err(cause);
+        }
+        edit_uncounted(alloc, &mut self.dom, e)?;
+        Ok(())
     }
 
     /// Brings the tree to the present document, for a moment of that number. It counts the reads of the document. At `Err`
@@ -93,19 +122,66 @@ impl LiveTree {
         moment: Moment,
         steps: &mut Steps<L>,
     ) -> Result<(LiveTree, Flushed), NoMemory>
-        ensures tree { IfOk result (λ r. r.0 ≡ record { flushed = tree self.document; document = self.document }) }
+        ensures tree { IfOk result (λ r. r.0 ≡ unmarked (tree self.document) self.document) }
         ensures batch { IfOk result (λ r. r.1.batch ≡ batch_between self.flushed (tree self.document)) }
         ensures notices { IfOk result (λ r. r.1.notices ≡ notices_between self.flushed (tree self.document) moment) }
     {
         let LiveTree {
             flushed: old,
-            document,
+            dom,
+            passes,
         } = self;
-        let flushed = build(alloc, &document, steps)?;
-        let batch = batch_between(alloc, &old, &flushed)?;
-        let notices = notices_between(alloc, &old, &flushed, moment)?;
-        Ok((LiveTree { flushed, document }, Flushed { batch, notices }))
+        let (dom, reach) = dom.flush(alloc, steps)?;
+        let now = dom.document();
+        now.keeps_tree();
+        let (flushed, passes, sent) = renewed(alloc, old, passes, now, &reach, moment, steps)?;
+        let live = LiveTree {
+            flushed,
+            dom,
+            passes,
+        };
+        Ok((live, sent))
     }
+}
+
+/// The tree of a document and what is kept of its nodes, made of those of an earlier document that is alike at each node
+/// but some; and what differs, and what is told of it.
+fn renewed<L: Ledger>(
+    alloc: Global,
+    kept: KeptTree,
+    passes: Passes,
+    now: &Dom,
+    reach: &Ids,
+    moment: Moment,
+    steps: &mut Steps<L>,
+) -> Result<(KeptTree, Passes, Flushed), NoMemory>
+    requires right { IsRightBut kept now.now passes.contexts passes.kids reach.now }
+    ensures tree { IfOk result (λ r. r.0 ≡ tree now.now) }
+    ensures contexts { IfOk result (λ r. AreContextsOf now.now r.1.contexts) }
+    ensures kids { IfOk result (λ r. AreKidsOf now.now r.1.kids) }
+    ensures batch { IfOk result (λ r. r.2.batch ≡ batch_between kept (tree now.now)) }
+    ensures notices { IfOk result (λ r. r.2.notices ≡ notices_between kept (tree now.now) moment) }
+{
+    now.keeps_tree();
+    let passes = passes.renew(alloc, now, reach, steps)?;
+    let turned = renewed_tree(alloc, kept, now, &passes, reach.as_slice(), steps)?;
+    let sent = told(alloc, &turned, moment)?;
+    let settled = turned.settle()?;
+    Ok((settled, passes, sent))
+}
+
+/// What differs from a tree to the one that it becomes, and what is told of it.
+fn told(alloc: Global, turned: &RenewedTree, moment: Moment) -> Result<Flushed, NoMemory>
+    requires differ { HaveAllDiffering turned.now.before turned.now.after turned.now.places }
+    requires told { AreCandidates turned.now.before turned.now.after turned.now.places }
+    ensures batch { IfOk result (λ r. r.batch ≡ batch_between turned.now.before turned.now.after) }
+    ensures notices { IfOk result (λ r. r.notices ≡ notices_between turned.now.before turned.now.after moment) }
+{
+    let before = turned.before();
+    let places = turned.places();
+    let batch = batch_among(alloc, before, turned, places)?;
+    let notices = notices_among(alloc, before, turned, moment, places)?;
+    Ok(Flushed { batch, notices })
 }
 
 /// Flushes a live tree on a count of its own, for a caller that counts no reads.
@@ -114,7 +190,7 @@ pub fn flush_uncounted(
     live: LiveTree,
     moment: Moment,
 ) -> Result<(LiveTree, Flushed), NoMemory>
-    ensures tree { IfOk result (λ r. r.0 ≡ record { flushed = tree live.document; document = live.document }) }
+    ensures tree { IfOk result (λ r. r.0 ≡ unmarked (tree live.document) live.document) }
     ensures batch { IfOk result (λ r. r.1.batch ≡ batch_between live.flushed (tree live.document)) }
     ensures notices { IfOk result (λ r. r.1.notices ≡ notices_between live.flushed (tree live.document) moment) }
 {
@@ -131,11 +207,45 @@ fn counted_flush<L: Ledger>(
     requires name { blank.name ≡ L.name }
     requires parts { blank.parts ≡ L.parts }
     requires some { 0 < blank.parts }
-    ensures tree { IfOk result (λ r. r.0 ≡ record { flushed = tree live.document; document = live.document }) }
+    ensures tree { IfOk result (λ r. r.0 ≡ unmarked (tree live.document) live.document) }
     ensures batch { IfOk result (λ r. r.1.batch ≡ batch_between live.flushed (tree live.document)) }
     ensures notices { IfOk result (λ r. r.1.notices ≡ notices_between live.flushed (tree live.document) moment) }
 {
     let (book, share) = blank.open::<L>();
     let mut steps = Steps::new(book, share);
     live.flush(alloc, moment, &mut steps)
+}
+
+/// Edits a document that nothing refuses to edit, on a count of its own.
+fn edit_uncounted(alloc: Global, dom: &mut MarkedDom, e: &Edit) -> Result<(), NoMemory>
+    requires within { EditKeepsBounds e.now }
+    requires free { edit_cause dom.old.document e.now ≡ None }
+    ensures ok { OnOk result (dom.new.document ≡ edited dom.old.document e.now) }
+    ensures marks { OnOk result (AreAlike (joined_marks dom.old.marks (marked dom.old.document (edited dom.old.document e.now) e.now)) dom.new.marks) }
+    ensures covers { OnOk result ((flushed : Document) → Covers flushed dom.old.document dom.old.marks → Covers flushed dom.new.document dom.new.marks) }
+    ensures err { OnErr result (dom.new ≡ dom.old) }
+{
+    counted_edit::<Brand>(alloc, dom, e, Blank::new(1))
+}
+
+/// Edits a document that nothing refuses to edit, where the reads are counted on a ledger that this blank opens.
+fn counted_edit<L: Ledger>(
+    alloc: Global,
+    dom: &mut MarkedDom,
+    e: &Edit,
+    blank: Blank,
+) -> Result<(), NoMemory>
+    requires within { EditKeepsBounds e.now }
+    requires free { edit_cause dom.old.document e.now ≡ None }
+    requires name { blank.name ≡ L.name }
+    requires parts { blank.parts ≡ L.parts }
+    requires some { 0 < blank.parts }
+    ensures ok { OnOk result (dom.new.document ≡ edited dom.old.document e.now) }
+    ensures marks { OnOk result (AreAlike (joined_marks dom.old.marks (marked dom.old.document (edited dom.old.document e.now) e.now)) dom.new.marks) }
+    ensures covers { OnOk result ((flushed : Document) → Covers flushed dom.old.document dom.old.marks → Covers flushed dom.new.document dom.new.marks) }
+    ensures err { OnErr result (dom.new ≡ dom.old) }
+{
+    let (book, share) = blank.open::<L>();
+    let mut steps = Steps::new(book, share);
+    dom.edit(alloc, e, &mut steps)
 }

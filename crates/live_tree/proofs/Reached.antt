@@ -1,0 +1,51 @@
+-- What is outside of the reach of marks is as it was.
+use Rattle.std.proofs.Common.{◌≡◌, ℕ, List, Bool, true, false, Option, Some, Contains, refl, sym, ap, ◌∙◌}
+use Rattle.std.specs.Cmp.{nat_eq_equiv}
+use Rattle.std.specs.List.Sorted.{IsStrictlyIncreasing}
+use Rattle.std.proofs.lemmas.Bool.{false≢true, eqb-true}
+use Rattle.std.proofs.lemmas.Map.Views.{Contains-from_any, list_any-from_Contains}
+use Rattle.ax_base.specs.Document.{Document, Spot, has}
+use Rattle.ax_base.specs.Roles.{ignored}
+use Rattle.ax_base.specs.Trees.{IsTree}
+use Rattle.ax_base.proofs.Places.{has_children}
+use Rattle.ax_dom.specs.Among.{is_in, IsClosedUp}
+use Rattle.dirty_set.specs.Reach.{Marked, is_touched, is_reached, reach}
+use Rattle.dirty_set.specs.Covers.{Covers}
+use Rattle.dirty_set.proofs.Nearness.{within_up, kept_there, there_kept, kept_rises}
+use Rattle.ctx_pass.specs.declared.contexts.Context.{Context}
+use Rattle.ctx_pass.specs.Contexts.{AreContextsOf, IsContextKept}
+use Rattle.kids_pass.specs.declared.children.NodeKids.{NodeKids}
+use Rattle.kids_pass.specs.Kids.{AreKidsOf, IsKidsKept}
+use Rattle.tree_diff.specs.Alike.{AreAlikeBut}
+
+module _ (d : Document) (t : IsTree d) (m : Marked) where
+  pub reach_rises : IsStrictlyIncreasing (reach d m)
+  reach_rises = kept_rises d t (is_reached d m)
+
+  pub reach_closed : IsClosedUp d (reach d m)
+  reach_closed p c child on =
+      let k = kept_there d t (is_reached d m) c (Contains-from_any eqb-true c (reach d m) on) in
+      list_any-from_Contains nat_eq_equiv p (reach d m) (there_kept d t (is_reached d m) p (has_children d p c child) (within_up d t (is_touched d m) p c child k.1))
+
+  unreached : (n : ℕ) → has d n ≡ true → is_in (reach d m) n ≡ false → is_reached d m n ≡ false
+  unreached n there out = go (is_reached d m n) refl
+    where
+      go : (b : Bool) → is_reached d m n ≡ b → b ≡ false
+      go true on = absurd (false≢true (sym out ∙ list_any-from_Contains nat_eq_equiv n (reach d m) (there_kept d t (is_reached d m) n there on)))
+      go false off = refl
+
+  module _ (old : Document) (covers : Covers old d m) where
+    pub still_alike : AreAlikeBut old d (reach d m)
+    still_alike n there out =
+        let s = covers n there (unreached n there out) in
+        record { was = s.was; body_same = s.body_same; out = s.out; live = s.live; kids_are = s.kids_are; name = s.name; description = s.description }
+
+    pub contexts_kept : (kept : List (ℕ × Context)) → AreContextsOf old kept → (n : ℕ) → has d n ≡ true → is_in (reach d m) n ≡ false → IsContextKept d kept n
+    contexts_kept kept are n there out =
+        let s = covers n there (unreached n there out) in
+        are n s.was ∙ (λ i. Some (record { hidden = s.hidden i; pruned = s.pruned i; live = s.live i }))
+
+    pub kids_kept : (kept : List (ℕ × NodeKids)) → AreKidsOf old kept → (n : ℕ) → has d n ≡ true → is_in (reach d m) n ≡ false → IsKidsKept d kept n
+    kids_kept kept are n there out =
+        let s = covers n there (unreached n there out) in
+        are n s.was ∙ (λ i. Some (record { ignored = ignored (record { id = n; body = s.body_same i }); kids = s.kids_are i }))

@@ -1,0 +1,213 @@
+-- The records that are made anew are those of the tree.
+use Rattle.std.proofs.Common.{◌≡◌, ◌⊎◌, inl, inr, ℕ, ◌-◌, ◌+◌, ◌<◌, length, get_or, take, drop, append_assoc, List, [], ◌∷◌, ◌++◌, Bool, true, false, cond, not, ◌||◌, Option, Some, None, Contains, refl, sym, ap, subst, ◌∙◌, eqb, arith}
+use Rattle.std.specs.Prelude.{nat_eq, filter}
+use Rattle.std.specs.List.{list_any, flat_map}
+use Rattle.std.specs.Ordering.{nat_cmp}
+use Rattle.std.specs.BTreeMap.{insert_entry}
+use Rattle.std.specs.Cmp.{nat_eq_equiv}
+use Rattle.std.proofs.lemmas.Bool.{eqb-true, false≢true}
+use Rattle.std.proofs.lemmas.List.{drop_more, take_more, flat_map_more}
+use Rattle.std.proofs.lemmas.Map.Views.{Contains-from_any, list_any-from_Contains}
+use Rattle.ax_base.specs.Document.{Document, Spot, has, spot, root}
+use Rattle.ax_base.specs.Context.{is_out}
+use Rattle.ax_base.specs.Roles.{ignored}
+use Rattle.ax_base.specs.Trees.{IsTree}
+use Rattle.ax_base.specs.Kids.{kids, objects}
+use Rattle.ax_base.proofs.Lookups.{finds_is, lookup-insert_entry}
+use Rattle.ax_base.proofs.Joins.{Contains-cases, Contains-flat_map, in_flat_map}
+use Rattle.ax_base.proofs.Membership.{Contains-head}
+use Rattle.ax_base.proofs.Objects.{objects_known, objects_shown, objects_hung, root_is_object, kids_are_objects}
+use Rattle.ax_dom.specs.Among.{is_in, IsClosedUp}
+use Rattle.ax_dom.specs.declared.cell.Cell.{Cell}
+use Rattle.ax_dom.specs.Slots.{cell_of, cell_at}
+use Rattle.ctx_pass.specs.declared.contexts.Context.{Context}
+use Rattle.ctx_pass.specs.Contexts.{context_of}
+use Rattle.ax_fresh.specs.Gathering.{with_records}
+use Rattle.ax_fresh.proofs.Put.{with_records-append}
+use Rattle.ax_record.specs.declared.record.Record.{Record}
+use Rattle.ax_record.specs.Tree.{Tree, entry_at, record_at, kids_of, IsKid}
+use Rattle.ax_record.specs.ObjectTrees.{IsObjectTree}
+use Rattle.ax_record.specs.Records.{tree, record_of, is_object}
+use Rattle.ax_record.proofs.TreeOf.{object_is, is_one, record_is, kids_are, kid_is, tree_hangs}
+use Rattle.tree_diff.specs.Lost.{lost}
+use Rattle.tree_diff.specs.Candidates.{hung_on, is_renewed_kid, renewed_kids, candidates, IsSortedFrom}
+use Rattle.tree_diff.proofs.Covering.{in_left, in_right, either_side, kids_closed}
+use Rattle.tree_diff.proofs.Gone.{lost_gone}
+use Rattle.tree_diff.proofs.Visible.{object_from, objects_visible}
+use Rattle.dirty_set.proofs.Edits.{kept_in}
+use Rattle.dirty_set.proofs.Firsts.{kept_cases}
+use Rattle.live_tree.specs.Remaking.{root_among, remade, AreHungOn}
+
+none_some : {X : Type 0} (x : X) → None ≡ Some x → ⊥
+none_some x e = cc
+
+-- a node that is not found is not there
+pub no_cell : (d : Document) (n : ℕ) → None ≡ cell_at d n → has d n ≡ false
+no_cell d n is = go (has d n) refl is
+  where
+    go : (b : Bool) → has d n ≡ b → None ≡ cond b (Some (cell_of d n)) None → b ≡ false
+    go true there e = absurd (none_some (cell_of d n) e)
+    go false gone e = refl
+
+-- one that is found is there, with its place
+pub a_cell : (d : Document) (n : ℕ) (c : Cell) → Some c ≡ cell_at d n → (has d n ≡ true) × (c ≡ cell_of d n)
+a_cell d n c is = go (has d n) refl is
+  where
+    go : (b : Bool) → has d n ≡ b → Some c ≡ cond b (Some (cell_of d n)) None → (b ≡ true) × (c ≡ cell_of d n)
+    go true there e = (refl, cc)
+    go false gone e = absurd (none_some c (sym e))
+
+-- it is the one with its own place
+pub own_cell : (d : Document) (n : ℕ) (c : Cell) → Some c ≡ cell_at d n → c ≡ cell_of d c.id
+own_cell d n c is = let there = a_cell d n c is in there.1 ∙ ap (cell_of d) (sym (ap (λ (x : Cell). x.id) there.1))
+
+-- whether a node is out, by what is kept of it
+pub out_of : (d : Document) (n : ℕ) (here : Context) (b : Bool) → here ≡ context_of d n → b ≡ (here.hidden || here.pruned) → is_out d n ≡ b
+out_of d n here b at is = sym (is ∙ ap (λ (x : Context). x.hidden || x.pruned) at)
+
+-- one id more
+pub one_more : (old so_far after ns : List ℕ) (i x : ℕ) → i < length ns → x ≡ get_or ns i x → so_far ≡ old ++ take i ns → after ≡ so_far ++ x ∷ [] → after ≡ old ++ take (i + 1) ns
+one_more old so_far after ns i x low is before step =
+    step ∙ ap (λ l. l ++ x ∷ []) before ∙ append_assoc old (take i ns) (x ∷ []) ∙ ap (λ l. old ++ l) (ap (λ y. take i ns ++ y ∷ []) is ∙ sym (take_more ns i x low))
+
+-- what is made of one id more
+pub made_more : (f : ℕ → List ℕ) (old so_far after ns : List ℕ) (i x : ℕ) → i < length ns → x ≡ get_or ns i x → so_far ≡ old ++ flat_map f (take i ns) → after ≡ so_far ++ f x → after ≡ old ++ flat_map f (take (i + 1) ns)
+made_more f old so_far after ns i x low is before step =
+    step ∙ ap (λ l. l ++ f x) before ∙ flat_map_more f old (take i ns) x ∙ ap (λ l. old ++ flat_map f l) (ap (λ y. take i ns ++ y ∷ []) is ∙ sym (take_more ns i x low))
+
+-- what stands at a place of a list is in it
+pub in_at : (ns : List ℕ) (i x : ℕ) → i < length ns → x ≡ get_or ns i x → Contains ns x
+in_at ns i x low is = (i, low, sym is)
+
+-- a record that is put in at its own id
+pub put_is : (d : Document) (es new : List (ℕ × Record)) (object : Record) (m n : ℕ) → new ≡ insert_entry nat_cmp es object.id object → object ≡ record_of d m → m ≡ n → new ≡ insert_entry nat_cmp es n (record_of d n)
+put_is d es new object m n is object_is same = is ∙ (λ i. insert_entry nat_cmp es (object_is i).id (object_is i)) ∙ (λ i. insert_entry nat_cmp es (same i) (record_of d (same i)))
+
+-- records that are put in twice, one after another
+pub both_made : (d : Document) (start first whole : List (ℕ × Record)) (xs ys : List ℕ) → start ≡ [] → first ≡ with_records d start xs → whole ≡ with_records d first ys → whole ≡ with_records d [] (xs ++ ys)
+both_made d start first whole xs ys none one both = both ∙ ap (λ es. with_records d es ys) (one ∙ ap (λ es. with_records d es xs) none) ∙ sym (with_records-append d [] xs ys)
+
+-- ids that are added to none
+pub only_those : (start first whole ys : List ℕ) → start ≡ [] → first ≡ start → whole ≡ first ++ ys → whole ≡ ys
+only_those start first whole ys none same more = more ∙ ap (λ l. l ++ ys) (same ∙ none)
+
+module _ (d : Document) (t : IsTree d) where
+  no_object : (n : ℕ) → (Contains (objects d) n → ⊥) → is_object d n ≡ false
+  no_object n none = go (is_object d n) refl
+    where
+      go : (b : Bool) → is_object d n ≡ b → b ≡ false
+      go true on = absurd (none (object_is d t n on))
+      go false off = refl
+
+  pub gone_none : (n : ℕ) → has d n ≡ false → is_object d n ≡ false
+  gone_none n gone = no_object n (λ object. false≢true (sym gone ∙ objects_known d t n object))
+
+  pub out_none : (n : ℕ) → is_out d n ≡ true → is_object d n ≡ false
+  out_none n out = no_object n (λ object. false≢true (sym (objects_visible d t n object) ∙ out))
+
+  -- a node that is there and not out is an object, unless it is ignored
+  pub shown_one : (n : ℕ) → has d n ≡ true → is_out d n ≡ false → is_object d n ≡ not (ignored (spot d n))
+  shown_one n there visible = go (ignored (spot d n)) refl
+    where
+      go : (b : Bool) → ignored (spot d n) ≡ b → is_object d n ≡ not b
+      go true is = no_object n (λ object. false≢true (sym (objects_shown d t n object) ∙ is))
+      go false shown = is_one d t n (object_from d t n there visible shown)
+
+  kid_of : (n k : ℕ) → Contains (objects d) n → Contains (kids d n) k → IsKid (tree d) n k
+  kid_of n k one kid = subst (λ l. Contains l k) (sym (kids_are d t n ∙ ap (λ b. cond b (kids d n) []) (is_one d t n one))) kid
+
+  -- the kids of an object in the tree, and of any other node none
+  pub kids_here : (n : ℕ) → is_object d n ≡ true → kids_of (tree d) n ≡ kids d n
+  kids_here n one = kids_are d t n ∙ ap (λ b. cond b (kids d n) []) one
+
+  pub no_kids : (n : ℕ) → is_object d n ≡ false → kids_of (tree d) n ≡ []
+  no_kids n none = kids_are d t n ∙ ap (λ b. cond b (kids d n) []) none
+
+  -- those of the kids of an object that pass a test hang on it
+  pub some_hung : (test : ℕ → Bool) (n : ℕ) (all ks : List ℕ) → Contains (objects d) n → all ≡ kids d n → ks ≡ filter test all → AreHungOn d n ks
+  some_hung test n all ks object is some = (object, λ k inside. subst (λ l. Contains l k) is (kept_cases test all k (subst (λ l. Contains l k) some inside)).0)
+
+  -- the records of what is made of one node more
+  pub made_step : (f : ℕ → List ℕ) (whole es fresh : List (ℕ × Record)) (ns : List ℕ) (i x : ℕ) → i < length ns → x ≡ get_or ns i x → with_records d es (flat_map f (drop i ns)) ≡ whole
+      → fresh ≡ with_records d es (f x) → with_records d fresh (flat_map f (drop (i + 1) ns)) ≡ whole
+  made_step f whole es fresh ns i x low is rest step =
+      (λ j. with_records d (step j) (flat_map f (drop (i + 1) ns)))
+      ∙ sym (with_records-append d es (f x) (flat_map f (drop (i + 1) ns)))
+      ∙ sym (ap (λ l. with_records d es (flat_map f l)) (drop_more ns i x low ∙ ap (λ y. y ∷ drop (i + 1) ns) (sym is)))
+      ∙ rest
+
+  -- the record of one object more
+  pub each_step : (whole es fresh : List (ℕ × Record)) (ns : List ℕ) (i x : ℕ) → i < length ns → x ≡ get_or ns i x → with_records d es (drop i ns) ≡ whole
+      → fresh ≡ insert_entry nat_cmp es x (record_of d x) → with_records d fresh (drop (i + 1) ns) ≡ whole
+  each_step whole es fresh ns i x low is rest step =
+      (λ j. with_records d (step j) (drop (i + 1) ns)) ∙ sym (ap (with_records d es) (drop_more ns i x low ∙ ap (λ y. y ∷ drop (i + 1) ns) (sym is))) ∙ rest
+
+  -- what is found after some records were put in
+  found_after : (q : ℕ) (es : List (ℕ × Record)) (ks : List ℕ) → entry_at (with_records d es ks) q ≡ cond (is_in ks q) (Some (record_of d q)) (entry_at es q)
+  found_after q es [] = refl
+  found_after q es (k ∷ ks) =
+      found_after q (insert_entry nat_cmp es k (record_of d k)) ks
+      ∙ ap (λ o. cond (is_in ks q) (Some (record_of d q)) o) (lookup-insert_entry q k (record_of d k) es ∙ ap (λ b. cond b (Some (record_of d k)) (entry_at es q)) (finds_is q k))
+      ∙ go (eqb q k) (is_in ks q) refl
+    where
+      go : (a b : Bool) → eqb q k ≡ a → cond b (Some (record_of d q)) (cond a (Some (record_of d k)) (entry_at es q)) ≡ cond (a || b) (Some (record_of d q)) (entry_at es q)
+      go true true e = refl
+      go true false e = ap (λ j. Some (record_of d j)) (sym (eqb-true q k e))
+      go false b e = refl
+
+  module _ (before : Tree) (ns : List ℕ) (closed : IsClosedUp d ns) where
+    abbrev below : List ℕ
+    below = flat_map (renewed_kids before d ns) ns
+
+    abbrev gone : List ℕ
+    gone = flat_map (lost before d) ns
+
+    among : (n : ℕ) → is_in ns n ≡ true → Contains ns n
+    among n on = Contains-from_any eqb-true n ns on
+
+    is_among : (n : ℕ) → Contains ns n → is_in ns n ≡ true
+    is_among n inside = list_any-from_Contains nat_eq_equiv n ns inside
+
+    -- what is made anew is an object
+    remade_object : (n : ℕ) → Contains (remade before d ns) n → Contains (objects d) n
+    remade_object n inside = elim (either_side (root_among ns) below n inside) [
+      | inl first ↦ by_root (is_in ns root) first
+      | inr more ↦
+          (let r = in_flat_map (renewed_kids before d ns) ns n more in
+          let k = kid_is d t r.0 n (kept_cases (is_renewed_kid before ns r.0) (kids_of (tree d) r.0) n r.2).0 in
+          kids_are_objects d t r.0 n k.0 k.1)
+    ]
+      where
+        by_root : (b : Bool) → Contains (cond b (root ∷ []) []) n → Contains (objects d) n
+        by_root true first = elim (Contains-cases n root [] first) [ inl is ↦ subst (Contains (objects d)) is (root_is_object d t) | inr none ↦ absurd (omega arith) ]
+        by_root false none = absurd (omega arith)
+
+    -- an object that is a candidate is made anew
+    object_remade : IsObjectTree before → (n : ℕ) → Contains (candidates before d ns) n → Contains (objects d) n → Contains (remade before d ns) n
+    object_remade hangs n inside object = elim (either_side ns (below ++ gone) n inside) [
+      | inl node ↦ (elim (objects_hung d t n object) [
+        | inl is ↦ in_left (root_among ns) below n (subst (λ b. Contains (cond b (root ∷ []) []) n) (sym (ap (is_in ns) is ∙ is_among n node)) (subst (Contains (root ∷ [])) is (Contains-head root [])))
+        | inr (p, up, kid) ↦
+            in_right (root_among ns) below n
+            (Contains-flat_map (renewed_kids before d ns) ns p n (among p (kids_closed d t ns closed (64 - t.level p) p n (omega arith) kid (is_among n node)))
+            (kept_in (is_renewed_kid before ns p) (kids_of (tree d) p) n (kid_of p n up kid) (ap (λ b. b || not (hung_on before p n)) (is_among n node))))
+      ])
+      | inr more ↦ (elim (either_side below gone n more) [
+        | inl hung ↦ in_right (root_among ns) below n hung
+        | inr none ↦ (let r = in_flat_map (lost before d) ns n none in absurd (false≢true (sym (lost_gone before d hangs r.0 n r.2) ∙ objects_known d t n object)))
+      ])
+    ]
+
+    agree : (a b : Bool) → (a ≡ true → b ≡ true) → (b ≡ true → a ≡ true) → a ≡ b
+    agree true b there back = sym (there refl)
+    agree false true there back = back refl
+    agree false false there back = refl
+
+    -- at each candidate is found what the tree has there
+    pub remade_found : IsObjectTree before → (ids : List ℕ) → IsSortedFrom (candidates before d ns) ids → (n : ℕ) → Contains ids n → entry_at (with_records d [] (remade before d ns)) n ≡ record_at (tree d) n
+    remade_found hangs ids sorted n inside =
+        found_after n [] (remade before d ns)
+        ∙ ap (λ b. cond b (Some (record_of d n)) None) (agree (is_in (remade before d ns) n) (is_object d n)
+        (λ on. is_one d t n (remade_object n (Contains-from_any eqb-true n (remade before d ns) on)))
+        (λ on. list_any-from_Contains nat_eq_equiv n (remade before d ns) (object_remade hangs n (sorted.only n inside) (object_is d t n on))))
+        ∙ sym (record_is d t n)
