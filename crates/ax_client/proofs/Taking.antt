@@ -9,8 +9,8 @@ use Rattle.story_check.specs.Stories.{Script, cap}
 use Rattle.ax_base.specs.declared.notices.Notice.{Notice}
 use Rattle.ax_record.specs.Tree.{Tree}
 use Rattle.story_check.specs.Moments.{tree_at, AreTrees}
-use Rattle.change_log.specs.declared.log.LogEntry.{LogEntry}
-use Rattle.change_log.specs.Logs.{span, patched_by, notices_in, FitsAll}
+use Rattle.change_log.specs.declared.log.LogEntries.{LogEntries}
+use Rattle.change_log.specs.Logs.{span, patched_by, notices_in, MayPatch}
 use Rattle.change_log.proofs.Spans.{span_patches, span_fits, span_notices}
 use Rattle.ax_answer.specs.Moments.{notices_of}
 use Rattle.ax_client.specs.declared.steps.Side.{Side}
@@ -19,15 +19,15 @@ use Rattle.ax_client.specs.Clients.{Took, Listened}
 use Rattle.ax_client.proofs.Deeds.{append-none, looks-snoc}
 
 -- the log fits the client's tree
-pub take_fits : (s : Script) (tree : Tree) (t from to : ℕ) (log : List LogEntry) → AreTrees s → tree ≡ tree_at s t → from ≡ t → log ≡ span (tree_at s) from to → FitsAll tree log
-take_fits s tree t from to log h e f g = subst (λ (y : Tree × List LogEntry). FitsAll y.0 y.1) (λ i. (sym e i, sym (g ∙ ap (λ (k : ℕ). span (tree_at s) k to) f) i)) (span_fits (tree_at s) t to h)
+pub take_fits : (s : Script) (tree : Tree) (t from to : ℕ) (log : LogEntries) → AreTrees s → tree ≡ tree_at s t → from ≡ t → log ≡ span (tree_at s) from to → MayPatch tree log
+take_fits s tree t from to log h e f g = subst (λ (y : Tree × LogEntries). MayPatch y.0 y.1) (λ i. (sym e i, sym (g ∙ ap (λ (k : ℕ). span (tree_at s) k to) f) i)) (span_fits (tree_at s) t to h)
 
 -- the notices of a span of a story
 told_of_span : (s : Script) (t p : ℕ) → notices_in (span (tree_at s) t p) ≡ notices_of s t p
 unfolding notices_of
 told_of_span s t p = span_notices (tree_at s) t p
 
-pub took : (old new : ClientState) (side : Side) (from to : ℕ) (tree : Tree) (log : List LogEntry) (notices pending : List Notice) → AreTrees old.story → side.tree ≡ tree_at old.story old.client.taken → new ≡ with_client old (taken_up_to (done old.client (Take to)) to) → from ≡ old.client.taken → log ≡ span (tree_at old.story) from to
+pub took : (old new : ClientState) (side : Side) (from to : ℕ) (tree : Tree) (log : LogEntries) (notices pending : List Notice) → AreTrees old.story → side.tree ≡ tree_at old.story old.client.taken → new ≡ with_client old (taken_up_to (done old.client (Take to)) to) → from ≡ old.client.taken → log ≡ span (tree_at old.story) from to
     → last_number 0 old.client.deeds ≤ to → from ≤ to → to ≤ cap old.story.page from → tree ≡ patched_by side.tree log → notices ≡ notices_in log → pending ≡ side.pending ++ notices
     → Took old.story old.client new.client side (record { tree = tree; moment = to; pending = pending; entries = side.entries; done = side.done })
 took old new side from to tree log notices pending trees here deed is got rises goes capped patched told more =

@@ -28,7 +28,7 @@ pub(crate) fn asked<R: Wait>(
     ensures own { SameClient port.old port.new }
     ensures did { (left : List ClientLine) → ClientStands port.old.story (Ask request.now ∷ left) port.old.client side → LineDid port.old.story left port.new.client result }
 {
-    let taken = take_all(rt, alloc, ports, port, side)?;
+    let taken = take_all(rt, ports, port, side)?;
     let reply = answer(alloc, &taken.tree, request)?;
     let moment = taken.moment;
     Ok(printed(taken, moment, EntryBody::Reply(reply))?)
@@ -64,7 +64,6 @@ pub(crate) fn heard(ports: &Ports, port: &mut ClientPort, side: Side) -> Result<
 /// Waits until a moment is published, and takes it.
 pub(crate) fn awaited<R: Wait>(
     rt: &R,
-    alloc: Global,
     ports: &Ports,
     port: &mut ClientPort,
     side: Side,
@@ -78,7 +77,7 @@ pub(crate) fn awaited<R: Wait>(
     if let Some(have) = listened(rt, ports, port, need) {
         return Err(ClientEnd::Ended { need, have });
     }
-    let side = take_all(rt, alloc, ports, port, side)?;
+    let side = take_all(rt, ports, port, side)?;
     let moment = side.moment;
     Ok(printed(side, moment, EntryBody::Await)?)
 }

@@ -10,7 +10,6 @@ use ax_ask::{Entries, Entry, EntryBody};
 use ax_base::{Moment, NoMemory, Notices};
 use ax_port::{ClientPort, Ports};
 use isolated_map::Isolated;
-use std::alloc::Global;
 use std::sync::Wait;
 use std::thread;
 
@@ -32,7 +31,6 @@ pub(crate) struct Side {
 /// Takes all that is published, and patches the tree after the lock is free again.
 pub(crate) fn take_all<R: Wait>(
     rt: &R,
-    alloc: Global,
     ports: &Ports,
     port: &mut ClientPort,
     side: Side,
@@ -45,7 +43,7 @@ pub(crate) fn take_all<R: Wait>(
     ensures took { IfOk result (Took port.old.story port.old.client port.new.client side) }
 {
     let taken = port.take(rt, ports);
-    let (tree, notices) = side.tree.patch(alloc, taken.log)?;
+    let (tree, notices) = side.tree.patch(taken.log)?;
     let mut pending = side.pending;
     pending.extend(notices)?;
     Ok(Side {

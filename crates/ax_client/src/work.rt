@@ -88,7 +88,7 @@ fn line_done<R: Wait>(
         ClientLine::Ask(request) => asked(rt, alloc, ports, port, side, request),
         ClientLine::Again(request) => again(alloc, port, side, request),
         ClientLine::Hear => heard(ports, port, side),
-        ClientLine::Await(need) => awaited(rt, alloc, ports, port, side, *need),
+        ClientLine::Await(need) => awaited(rt, ports, port, side, *need),
         ClientLine::Notices => noticed(alloc, port, side),
     }
 }

@@ -13,7 +13,6 @@ use Rattle.ax_record.specs.Tree.{Tree}
 use Rattle.ax_record.specs.Records.{tree}
 use Rattle.ax_batch.specs.Batches.{batch_between}
 use Rattle.ax_notice.specs.Notices.{notices_between, kind_notices}
-use Rattle.change_log.specs.declared.log.LogEntry.{LogEntry}
 use Rattle.change_log.specs.Logs.{entry_after}
 use Rattle.story_check.specs.declared.story.PageLine.{PageLine}
 use Rattle.story_check.specs.declared.story.PageLine.TheVariants.{Flush}
@@ -21,7 +20,7 @@ use Rattle.story_check.specs.Stories.{Script, cap}
 use Rattle.story_check.specs.Moments.{after_edits, after_flushes, document_at, tree_at}
 use Rattle.turn_word.specs.Views.{new_page}
 use Rattle.ax_port.specs.States.{PortsState, PageState, with_page, published_more}
-use Rattle.ax_port.specs.Quiet.{flush_lines, IsQuiet, IsAt, no_change, no_news}
+use Rattle.ax_port.specs.Quiet.{flush_lines, IsQuiet, IsAt, no_news}
 
 -- one flush more
 at_end : (n : ℕ) → flush_lines n ++ Flush ∷ [] ≡ flush_lines (suc n)

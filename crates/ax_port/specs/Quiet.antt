@@ -1,7 +1,7 @@
 -- Stories whose page only flushes, for tests: nothing changes from one moment to the next.
-use Rattle.std.specs.Prelude.{◌≡◌, ℕ, zero, suc, List, [], ◌∷◌, false, None}
-use Rattle.ax_batch.specs.declared.batch.Batch.{Batch}
-use Rattle.change_log.specs.declared.log.LogEntry.{LogEntry}
+use Rattle.std.specs.Prelude.{◌≡◌, ℕ, zero, suc, List, [], ◌∷◌, false}
+use Rattle.ax_batch.specs.Fates.{no_change}
+use Rattle.change_log.specs.declared.log.LogEntries.{LogEntries}
 use Rattle.story_check.specs.declared.story.PageLine.{PageLine}
 use Rattle.story_check.specs.declared.story.PageLine.TheVariants.{Flush}
 use Rattle.story_check.specs.Stories.{Script}
@@ -17,12 +17,8 @@ pub record IsQuiet (s : Script) (n : ℕ) : Type 0 where
   pub base : s.base ≡ []
   pub page : s.page ≡ flush_lines n
 
--- the batch of a moment in which nothing changed
-abbrev pub no_change : Batch
-no_change = record { added = []; changed = []; removed = []; focus = None }
-
--- what is logged for it
-abbrev pub no_news : LogEntry
+-- what is logged for a moment in which nothing changed
+abbrev pub no_news : LogEntries
 no_news = record { batch = no_change; notices = [] }
 
 -- the page's port of a quiet story has published so many moments, and is not closed

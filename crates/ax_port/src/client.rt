@@ -34,7 +34,7 @@ pub struct Taken {
     pub from: Moment,
     /// The moment up to which it has taken now: all that was published as it had the lock.
     pub to: Moment,
-    /// The moments after `from`, up to `to`, in order.
+    /// What is logged of the moments after `from`, up to `to`.
     pub log: ChangeLog,
 }
 

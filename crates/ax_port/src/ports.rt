@@ -41,7 +41,7 @@ pub struct Final {
     pub published: Moment,
     /// The moment that the client took last.
     pub taken: Moment,
-    /// The moments that were published and not taken, in order.
+    /// What is logged of the moments that were published and not taken.
     pub log: ChangeLog,
 }
 

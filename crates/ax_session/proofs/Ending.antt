@@ -1,5 +1,6 @@
 -- What the workers promise, at the last state.
 use Rattle.std.proofs.Common.{◌≡◌, ℕ, ◌≤◌, List, [], ◌∷◌, ◌++◌, Bool, true, false, refl, sym, ap, ◌∙◌, subst, arith}
+use Rattle.std.specs.Prelude.{Result, Ok, Err, IfOk}
 use Rattle.turn_word.specs.declared.view.Deed.{Deed}
 use Rattle.turn_word.specs.declared.view.Deed.TheVariants.{Look, Take}
 use Rattle.turn_word.specs.declared.view.PageRecord.{PageRecord}
@@ -9,10 +10,13 @@ use Rattle.ax_port.specs.States.{IsLast}
 use Rattle.story_check.specs.Stories.{Script, flushes, cap, awaited, untils_met}
 use Rattle.story_check.proofs.Caps.{untils_rise}
 use Rattle.ax_base.specs.Document.{Document}
+use Rattle.ax_base.specs.declared.memory.NoMemory.{NoMemory}
+use Rattle.ax_ask.specs.declared.transcripts.Transcript.{Transcript}
+use Rattle.ax_answer.specs.Legal.{IsLegalTranscript}
 use Rattle.ax_record.specs.Tree.{Tree}
 use Rattle.ax_record.specs.Records.{tree}
 use Rattle.story_check.specs.Moments.{tree_at, document_at}
-use Rattle.live_tree.specs.LiveTrees.{LiveDocument}
+use Rattle.live_tree.specs.LiveTrees.{LiveDocument, unmarked}
 use Rattle.page_thread.specs.declared.ends.PageEnd.{PageEnd}
 use Rattle.page_thread.specs.declared.ends.PageEnd.TheVariants.{Done as PageDone, NoMemory as PageNoMemory, Ended as PageEnded}
 use Rattle.page_thread.specs.Pages.{PageDid}
@@ -45,10 +49,15 @@ pub client_facts_at : (s t u : Script) (r : PageRecord) (c : ClientRecord) (end 
 client_facts_at s t u r c end published taken same of p q d l = subst (λ (y : ℕ × ℕ). ClientFacts s end y.0 y.1) (λ i. (sym p i, sym q i)) (client_facts s r c end (subst (λ (v : Script). ClientDid v c end) of d) (subst (λ (v : Script). IsLast v r c) same l))
 
 -- the live tree of moment 0
-pub live_starts : (s : Script) (d : Document) (live : LiveDocument) → live ≡ record { flushed = tree d; document = d } → d ≡ document_at s 0 → live ≡ record { flushed = tree_at s 0; document = document_at s 0 }
+pub live_starts : (s : Script) (d : Document) (live : LiveDocument) → live ≡ unmarked (tree d) d → d ≡ document_at s 0 → live ≡ unmarked (tree_at s 0) (document_at s 0)
 unfolding tree_at
-live_starts s d live e f = e ∙ (λ i. record { flushed = tree (f i); document = f i })
+live_starts s d live e f = e ∙ (λ i. unmarked (tree (f i)) (f i))
 
 -- and the tree of its flush
-pub tree_starts : (s t : Script) (copy : Tree) (live : LiveDocument) → t ≡ s → copy ≡ live.flushed → live ≡ record { flushed = tree_at s 0; document = document_at s 0 } → copy ≡ tree_at t 0
+pub tree_starts : (s t : Script) (copy : Tree) (live : LiveDocument) → t ≡ s → copy ≡ live.flushed → live ≡ unmarked (tree_at s 0) (document_at s 0) → copy ≡ tree_at t 0
 tree_starts s t copy live same e g = e ∙ (ap (λ (l : LiveDocument). l.flushed) g ∙ ap (λ (v : Script). tree_at v 0) (sym same))
+
+-- what the client was told is legal
+pub told_legal : (s u : Script) (r : ClientRecord) (end : ClientEnd) (result : Result Transcript NoMemory) → u ≡ s → ClientDid u r end → IfOk result (λ w. end ≡ ClientDone w) → IfOk result (IsLegalTranscript s)
+told_legal s u r end (Ok w) of did is = (subst (λ (e : ClientEnd). ClientDid s r e) is (subst (λ (v : Script). ClientDid v r end) of did)).0
+told_legal s u r end (Err e) of did is = tt

@@ -3,6 +3,7 @@ ghost use Rattle.std.specs.Prelude.{◌≡◌, ◌≤◌, length, true};
 ghost use Rattle.turn_word.specs.Views.{new_page, new_client};
 ghost use Rattle.story_check.specs.Stories.{flushes};
 ghost use Rattle.story_check.specs.Moments.{tree_at, document_at, IsAccepted, AreTrees};
+ghost use Rattle.live_tree.specs.LiveTrees.{unmarked};
 ghost use Rattle.page_thread.specs.Pages.{PageDid};
 ghost use Rattle.ax_port.specs.States.{SamePage, SameClient};
 ghost use Rattle.ax_client.specs.Clients.{ClientDid};
@@ -43,7 +44,7 @@ pub(crate) struct ClientJob<'a, G: Gate> {
 impl<'a, G: Gate> Job for PageJob<'a, G> {
     type Out = (PagePort, PageEnd);
 
-    ghost ready = { λ j. (j.port.table ≡ j.ports.now.table) × (j.port.page ≡ new_page) × (j.port.story ≡ j.story.now) × IsAccepted j.story.now × (j.live ≡ record { flushed = tree_at j.story.now 0; document = document_at j.story.now 0 }) };
+    ghost ready = { λ j. (j.port.table ≡ j.ports.now.table) × (j.port.page ≡ new_page) × (j.port.story ≡ j.story.now) × IsAccepted j.story.now × (j.live ≡ unmarked (tree_at j.story.now 0) (document_at j.story.now 0)) };
 
     ghost gives = { λ j r. SamePage j.port r.0 × PageDid j.story.now r.0.page r.1 };
 

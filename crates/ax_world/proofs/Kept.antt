@@ -14,10 +14,10 @@ use Rattle.ax_record.specs.Records.{tree}
 use Rattle.ax_batch.specs.declared.batch.Batch.{Batch}
 use Rattle.ax_batch.specs.Batches.{batch_between}
 use Rattle.ax_notice.specs.Notices.{notices_between}
-use Rattle.change_log.specs.declared.log.LogEntry.{LogEntry}
-use Rattle.change_log.specs.Logs.{entry_after, span, patched_by, notices_in, FitsAll}
+use Rattle.change_log.specs.declared.log.LogEntries.{LogEntries}
+use Rattle.change_log.specs.Logs.{entry_after, no_entries, appended, span, patched_by, notices_in, MayPatch}
 use Rattle.change_log.proofs.Spans.{span-snoc, span-none, span_patches, span_fits, span_notices}
-use Rattle.live_tree.specs.LiveTrees.{LiveDocument}
+use Rattle.live_tree.specs.LiveTrees.{LiveDocument, unmarked}
 use Rattle.story_check.specs.declared.story.ClientLine.{ClientLine}
 use Rattle.story_check.specs.declared.story.PageLine.TheVariants.{Change, Flush, Until}
 use Rattle.story_check.specs.Stories.{Script, flushes}
@@ -56,7 +56,7 @@ pub base_is : (s : Script) → document_at s 0 ≡ after_edits new_document s.ba
 unfolding document_at
 base_is s = refl
 
-pub kept_start : (s : Script) (entries : List Entry) (document : Document) (live : LiveDocument) (log : List LogEntry) (mine : Tree) (pending : List Notice) → document ≡ after_edits new_document s.base → live ≡ record { flushed = tree document; document = document } → log ≡ [] → mine ≡ live.flushed → pending ≡ [] → AreLinesAccepted (after_edits new_document s.base) s.page → AreTrees s → IsKept s (record start { entries = entries }) live log mine pending
+pub kept_start : (s : Script) (entries : List Entry) (document : Document) (live : LiveDocument) (log : LogEntries) (mine : Tree) (pending : List Notice) → document ≡ after_edits new_document s.base → live ≡ unmarked (tree document) document → log ≡ no_entries → mine ≡ live.flushed → pending ≡ [] → AreLinesAccepted (after_edits new_document s.base) s.page → AreTrees s → IsKept s (record start { entries = entries }) live log mine pending
 kept_start s entries document live log mine pending d v l m p a trees =
     let is : live.document ≡ after_edits new_document s.base = ap (λ (x : LiveDocument). x.document) v ∙ d in
     let shown : live.flushed ≡ tree_at s 0 = tree_of_start s document live.flushed d (ap (λ (x : LiveDocument). x.flushed) v) in
@@ -74,10 +74,10 @@ kept_start s entries document live log mine pending d v l m p a trees =
     }
 
 -- the next edit may be done
-pub next_accepted : (s : Script) (c : State) (live : LiveDocument) (log : List LogEntry) (mine : Tree) (pending : List Notice) (edit : Edit) → IsKept s c live log mine pending → slice_get s.page c.page_done ≡ Some (Change edit) → MayBeDone live.document edit
+pub next_accepted : (s : Script) (c : State) (live : LiveDocument) (log : LogEntries) (mine : Tree) (pending : List Notice) (edit : Edit) → IsKept s c live log mine pending → slice_get s.page c.page_done ≡ Some (Change edit) → MayBeDone live.document edit
 next_accepted s c live log mine pending edit h line = (subst (AreLinesAccepted live.document) (drop_line s.page c.page_done (Change edit) line) h.accepted).0
 
-pub kept_change : (s : Script) (c : State) (live : LiveDocument) (log : List LogEntry) (mine : Tree) (pending : List Notice) (done : ℕ) (edit : Edit) (now : LiveDocument) → IsKept s c live log mine pending → slice_get s.page c.page_done ≡ Some (Change edit) → done ≡ c.page_done + 1 → now ≡ record { flushed = live.flushed; document = edited live.document edit } → IsKept s (record c { page_done = done }) now log mine pending
+pub kept_change : (s : Script) (c : State) (live : LiveDocument) (log : LogEntries) (mine : Tree) (pending : List Notice) (done : ℕ) (edit : Edit) (now : LiveDocument) → IsKept s c live log mine pending → slice_get s.page c.page_done ≡ Some (Change edit) → done ≡ c.page_done + 1 → now ≡ record { flushed = live.flushed; document = edited live.document edit; marks = now.marks } → IsKept s (record c { page_done = done }) now log mine pending
 kept_change s c live log mine pending done edit now h line e v =
     let d = left_after s.page c.page_done done (Change edit) line e in
     let f : now.document ≡ edited live.document edit = ap (λ (x : LiveDocument). x.document) v in
@@ -94,7 +94,7 @@ kept_change s c live log mine pending done edit now h line e v =
       noticed_most = h.noticed_most;
     }
 
-pub kept_until : (s : Script) (c : State) (live : LiveDocument) (log : List LogEntry) (mine : Tree) (pending : List Notice) (done k : ℕ) → IsKept s c live log mine pending → slice_get s.page c.page_done ≡ Some (Until k) → done ≡ c.page_done + 1 → IsKept s (record c { page_done = done }) live log mine pending
+pub kept_until : (s : Script) (c : State) (live : LiveDocument) (log : LogEntries) (mine : Tree) (pending : List Notice) (done k : ℕ) → IsKept s c live log mine pending → slice_get s.page c.page_done ≡ Some (Until k) → done ≡ c.page_done + 1 → IsKept s (record c { page_done = done }) live log mine pending
 kept_until s c live log mine pending done n h line e =
     let d = left_after s.page c.page_done done (Until n) line e in
     record {
@@ -111,7 +111,7 @@ kept_until s c live log mine pending done n h line e =
     }
 
 -- there is a flush that is not published yet
-pub may_publish : (s : Script) (c : State) (live : LiveDocument) (log : List LogEntry) (mine : Tree) (pending : List Notice) → IsKept s c live log mine pending → slice_get s.page c.page_done ≡ Some Flush → c.published + 1 + flushes (drop (c.page_done + 1) s.page) ≡ flushes s.page
+pub may_publish : (s : Script) (c : State) (live : LiveDocument) (log : LogEntries) (mine : Tree) (pending : List Notice) → IsKept s c live log mine pending → slice_get s.page c.page_done ≡ Some Flush → c.published + 1 + flushes (drop (c.page_done + 1) s.page) ≡ flushes s.page
 may_publish s c live log mine pending h line = let x = ap flushes (drop_line s.page c.page_done Flush line) in let y = h.left in omega arith
 
 -- what a flush appends is the next moment
@@ -121,8 +121,8 @@ next_entry s p shown now b n x y e f = λ i. record {
   notices = (f ∙ (λ j. notices_between (x j) (y j) (p + 1))) i;
 }
 
-pub kept_flush : (s : Script) (c : State) (live : LiveDocument) (log : List LogEntry) (mine : Tree) (pending : List Notice) (done published : ℕ) (now : LiveDocument) (batch : Batch) (notices : List Notice) (longer : List LogEntry) → IsKept s c live log mine pending → slice_get s.page c.page_done ≡ Some Flush → done ≡ c.page_done + 1 → published ≡ c.published + 1
-    → now ≡ record { flushed = tree live.document; document = live.document } → batch ≡ batch_between live.flushed (tree live.document) → notices ≡ notices_between live.flushed (tree live.document) published → longer ≡ log ++ record { batch = batch; notices = notices } ∷ []
+pub kept_flush : (s : Script) (c : State) (live : LiveDocument) (log : LogEntries) (mine : Tree) (pending : List Notice) (done published : ℕ) (now : LiveDocument) (batch : Batch) (notices : List Notice) (longer : LogEntries) → IsKept s c live log mine pending → slice_get s.page c.page_done ≡ Some Flush → done ≡ c.page_done + 1 → published ≡ c.published + 1
+    → now ≡ unmarked (tree live.document) live.document → batch ≡ batch_between live.flushed (tree live.document) → notices ≡ notices_between live.flushed (tree live.document) published → longer ≡ appended log (record { batch = batch; notices = notices })
     → IsKept s (record c { page_done = done; published = published }) now longer mine pending
 kept_flush s c live log mine pending done published now batch notices longer h line e f v b n l =
     let d = left_after s.page c.page_done done Flush line e in
@@ -136,7 +136,7 @@ kept_flush s c live log mine pending done published now batch notices longer h l
       accepted = subst (λ x. AreLinesAccepted x (drop done s.page)) (sym same) (subst (AreLinesAccepted live.document) d h.accepted);
       trees = h.trees;
       shown_is = ap (λ (x : LiveDocument). x.flushed) v ∙ (shown ∙ ap (tree_at s) (sym f));
-      log_is = l ∙ ((λ i. h.log_is i ++ more i ∷ []) ∙ (sym (span-snoc (tree_at s) c.taken c.published h.taken_most) ∙ ap (λ k. span (tree_at s) c.taken k) (sym f)));
+      log_is = l ∙ ((λ i. appended (h.log_is i) (more i)) ∙ (sym (span-snoc (tree_at s) c.taken c.published h.taken_most) ∙ ap (λ k. span (tree_at s) c.taken k) (sym f)));
       mine_is = h.mine_is;
       pending_is = h.pending_is;
       taken_most = let x = h.taken_most in omega arith;
@@ -144,8 +144,8 @@ kept_flush s c live log mine pending done published now batch notices longer h l
     }
 
 -- what the log has fits the client's tree
-pub log_fits : (s : Script) (c : State) (live : LiveDocument) (log : List LogEntry) (mine : Tree) (pending : List Notice) → IsKept s c live log mine pending → FitsAll mine log
-log_fits s c live log mine pending h = subst (λ (y : Tree × List LogEntry). FitsAll y.0 y.1) (λ i. (sym h.mine_is i, sym h.log_is i)) (span_fits (tree_at s) c.taken c.published h.trees)
+pub log_fits : (s : Script) (c : State) (live : LiveDocument) (log : LogEntries) (mine : Tree) (pending : List Notice) → IsKept s c live log mine pending → MayPatch mine log
+log_fits s c live log mine pending h = subst (λ (y : Tree × LogEntries). MayPatch y.0 y.1) (λ i. (sym h.mine_is i, sym h.log_is i)) (span_fits (tree_at s) c.taken c.published h.trees)
 
 -- the notices of a span are those of its moments
 told_of_span : (s : Script) (t p : ℕ) → notices_in (span (tree_at s) t p) ≡ notices_of s t p
@@ -153,7 +153,7 @@ unfolding notices_of
 told_of_span s t p = span_notices (tree_at s) t p
 
 -- the client takes all that is published
-pub kept_take : (s : Script) (c : State) (live : LiveDocument) (log none : List LogEntry) (mine now : Tree) (pending told more : List Notice) → IsKept s c live log mine pending → none ≡ [] → now ≡ patched_by mine log → told ≡ notices_in log → more ≡ pending ++ told → IsKept s (record c { taken = c.published }) live none now more
+pub kept_take : (s : Script) (c : State) (live : LiveDocument) (log none : LogEntries) (mine now : Tree) (pending told more : List Notice) → IsKept s c live log mine pending → none ≡ no_entries → now ≡ patched_by mine log → told ≡ notices_in log → more ≡ pending ++ told → IsKept s (record c { taken = c.published }) live none now more
 kept_take s c live log none mine now pending told more h e p n m =
     let up = h.taken_most in
     let low = h.noticed_most in
@@ -171,7 +171,7 @@ kept_take s c live log none mine now pending told more h e p n m =
     }
 
 -- the client prints its notices
-pub kept_told : (s : Script) (c : State) (live : LiveDocument) (log : List LogEntry) (mine : Tree) (pending none : List Notice) → IsKept s c live log mine pending → none ≡ [] → IsKept s (record c { noticed = c.taken }) live log mine none
+pub kept_told : (s : Script) (c : State) (live : LiveDocument) (log : LogEntries) (mine : Tree) (pending none : List Notice) → IsKept s c live log mine pending → none ≡ [] → IsKept s (record c { noticed = c.taken }) live log mine none
 kept_told s c live log mine pending none h e = record {
   left = h.left;
   later = h.later;
@@ -186,7 +186,7 @@ kept_told s c live log mine pending none h e = record {
 }
 
 -- the client's tree answers what is answered at the moment taken
-pub reply_from_tree : (s : Script) (c : State) (live : LiveDocument) (log : List LogEntry) (mine : Tree) (pending : List Notice) (q : Request) (r : Result Reply NoMemory) → IsKept s c live log mine pending → IfOk r (λ x. x ≡ answer mine q) → IfOk r (λ x. x ≡ answer_at s c.taken q)
+pub reply_from_tree : (s : Script) (c : State) (live : LiveDocument) (log : LogEntries) (mine : Tree) (pending : List Notice) (q : Request) (r : Result Reply NoMemory) → IsKept s c live log mine pending → IfOk r (λ x. x ≡ answer mine q) → IfOk r (λ x. x ≡ answer_at s c.taken q)
 unfolding answer_at
 reply_from_tree s c live log mine pending q (Ok r) h e = e ∙ ap (λ t. answer t q) h.mine_is
 reply_from_tree s c live log mine pending q (Err f) h e = e

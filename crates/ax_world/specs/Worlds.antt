@@ -4,7 +4,7 @@ use Rattle.ax_base.specs.declared.notices.Notice.{Notice}
 use Rattle.ax_record.specs.Tree.{Tree}
 use Rattle.story_check.specs.Stories.{Script, flushes}
 use Rattle.story_check.specs.Moments.{document_at, after_flushes, tree_at, AreLinesAccepted, AreTrees}
-use Rattle.change_log.specs.declared.log.LogEntry.{LogEntry}
+use Rattle.change_log.specs.declared.log.LogEntries.{LogEntries}
 use Rattle.change_log.specs.Logs.{span}
 use Rattle.live_tree.specs.LiveTrees.{LiveDocument}
 use Rattle.ax_answer.specs.Moments.{notices_of}
@@ -22,7 +22,7 @@ Gives old step new = (new.0 ≡ record { story = old.story; state = step.state }
 
 -- The page has its live tree. The log has the moments that are published and not taken, `mine` is the client's tree, and `pending` are
 -- the notices that it took and did not print.
-pub record IsKept (s : Script) (c : State) (live : LiveDocument) (log : List LogEntry) (mine : Tree) (pending : List Notice) : Type 0 where
+pub record IsKept (s : Script) (c : State) (live : LiveDocument) (log : LogEntries) (mine : Tree) (pending : List Notice) : Type 0 where
   pub left : c.published + flushes (drop c.page_done s.page) ≡ flushes s.page
   pub later : (k : ℕ) → document_at s (c.published + suc k) ≡ after_flushes live.document (drop c.page_done s.page) (suc k)
   pub accepted : AreLinesAccepted live.document (drop c.page_done s.page)

@@ -204,7 +204,7 @@ impl World {
     fn take(self, alloc: Global) -> Result<World, NoMemory>
         ensures { IfOk result (λ w. w ≡ record { story = self.story; state = record self.state { taken = self.state.published } }) }
     {
-        let (mine, told) = self.mine.patch(alloc, self.log)?;
+        let (mine, told) = self.mine.patch(self.log)?;
         let mut pending = self.pending;
         pending.extend(told)?;
         Ok(World {

@@ -2,7 +2,7 @@
 ghost use Rattle.std.specs.Prelude.{◌≡◌, [], None};
 ghost use Rattle.ax_record.specs.ObjectTrees.{HasFittingText, KeepsBounds};
 
-use ax_base::{Ids, Live, ObjId, Rect, Role, Runs, States, Text};
+use ax_base::{Ids, Live, Notices, ObjId, Rect, Role, Runs, States, Text};
 use ax_record::{FreshTree, Record, RecordMap, TreeView};
 use change_log::ChangeLog;
 use isolated_map::Isolated;
@@ -61,13 +61,20 @@ fn lone_root(alloc: Global) -> Result<FreshTree, Fail> {
     Ok(tree)
 }
 
+/// A tree that takes the empty log over.
+fn unchanged(alloc: Global, tree: Isolated) -> Result<(Isolated, Notices), Fail> {
+    let _root = tree.find(tree.root());
+    let taken = tree.patch(ChangeLog::empty(alloc))?;
+    Ok(taken)
+}
+
 #[test]
 fn a_copy_has_the_same_objects(rt: HostRuntime) -> Result<(), Fail> {
     let alloc = rt.alloc();
     let tree = lone_root(alloc)?;
     let copy = Isolated::from_tree(alloc, &tree)?;
     needs_send(&copy);
-    let (copy, notices) = copy.patch(alloc, ChangeLog::empty(alloc))?;
+    let (copy, notices) = unchanged(alloc, copy)?;
     assert!(rt;
         copy.find(ObjId(1))
             .is_some_and(|r| r.role == Role::Document)

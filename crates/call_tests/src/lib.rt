@@ -13,8 +13,6 @@ mod isolated_trees;
 #[cfg(test)]
 mod lines;
 #[cfg(test)]
-mod live_trees;
-#[cfg(test)]
 mod logs;
 #[cfg(test)]
 mod names;
@@ -32,5 +30,3 @@ mod states;
 mod stories;
 #[cfg(test)]
 mod trees;
-#[cfg(test)]
-mod worlds;

@@ -2,8 +2,8 @@
 ghost use Rattle.std.specs.Prelude.{◌≡◌};
 
 use ax_base::{Ids, Moment, Notice, NoticeKind, Notices, ObjId};
-use ax_batch::{Batch, Changes, Records};
-use change_log::{ChangeLog, LogEntry};
+use ax_batch::{Batch, Changes, Records, merge};
+use change_log::ChangeLog;
 use std::alloc::Global;
 use std::test::Fail;
 
@@ -20,21 +20,26 @@ fn focus_on(alloc: Global, id: u32) -> Batch {
     }
 }
 
-/// Whether a moment hands the focus to an object.
-fn focuses_on(entry: &LogEntry, id: u32) -> bool {
-    entry.batch.focus == Some(Some(ObjId(id)))
-}
-
 #[test]
-fn moments_come_back_in_order(rt: HostRuntime) -> Result<(), Fail> {
+fn the_last_focus_counts(rt: HostRuntime) -> Result<(), Fail> {
     let alloc = rt.alloc();
     let mut log = ChangeLog::empty(alloc);
     needs_send(&log);
     log.append(focus_on(alloc, 2), Notices::new(alloc))?;
     log.append(focus_on(alloc, 3), Notices::new(alloc))?;
     let entries = log.into_entries();
-    assert_eq!(rt; entries.len(), 2);
-    assert!(rt; focuses_on(&entries[0], 2) && focuses_on(&entries[1], 3));
+    assert!(rt; entries.batch.focus == Some(Some(ObjId(3))));
+    Ok(())
+}
+
+#[test]
+fn a_copied_batch_merges_as_it_does(rt: HostRuntime) -> Result<(), Fail> {
+    let alloc = rt.alloc();
+    let first = focus_on(alloc, 2);
+    let second = first.copy(alloc)?;
+    let both = merge(alloc, first, second)?;
+    assert!(rt; both.focus == Some(Some(ObjId(2))));
+    assert_eq!(rt; both.added.as_slice().len(), 0);
     Ok(())
 }
 

@@ -20,6 +20,7 @@ use Rattle.ax_notice.specs.Notices.{notices_between}
 use Rattle.story_check.specs.Moments.{after_edits, after_flushes, document_at, tree_at, MayBeDone, AreLinesAccepted, IsAccepted}
 use Rattle.ax_batch.specs.Batches.{batch_between}
 use Rattle.change_log.specs.Logs.{entry_after}
+use Rattle.live_tree.specs.LiveTrees.{unmarked}
 use Rattle.page_thread.specs.declared.ends.PageEnd.{PageEnd}
 use Rattle.page_thread.specs.declared.ends.PageEnd.TheVariants.{Done, NoMemory, Ended}
 use Rattle.page_thread.specs.declared.work.Side.{Side}
@@ -41,14 +42,14 @@ lines_accepted : (s : Script) → IsAccepted s → AreLinesAccepted (document_at
 unfolding document_at
 lines_accepted s a = a.lines
 
-pub page_starts : (s : Script) (r : PageRecord) (side : Side) → IsAccepted s → flushes s.page ≤ 65537 → r ≡ new_page → side ≡ record { live = record { flushed = tree_at s 0; document = document_at s 0 }; published = 0 } → PageStands s s.page r side
+pub page_starts : (s : Script) (r : PageRecord) (side : Side) → IsAccepted s → flushes s.page ≤ 65537 → r ≡ new_page → side ≡ record { live = unmarked (tree_at s 0) (document_at s 0); published = 0 } → PageStands s s.page r side
 page_starts s r side a few e f = subst (λ (y : PageRecord × Side). PageStands s s.page y.0 y.1) (λ i. (sym e i, sym f i))
     (record { before = []; is = refl; few = few; count = refl; flushed = refl; passed = refl; going = refl; tree = refl; later = document_first s; accepted = lines_accepted s a })
 
 append_one : {X : Type 0} (page before : List X) (x : X) (xs : List X) → page ≡ before ++ x ∷ xs → page ≡ (before ++ x ∷ []) ++ xs
 append_one page before x xs is = is ∙ sym (append_assoc before (x ∷ []) xs)
 
-pub page_changes : (s : Script) (xs : List PageLine) (r : PageRecord) (side next : Side) (e : Edit) → next ≡ record { live = record { flushed = side.live.flushed; document = edited side.live.document e }; published = side.published } → PageStands s (Change e ∷ xs) r side → PageStands s xs r next
+pub page_changes : (s : Script) (xs : List PageLine) (r : PageRecord) (side next : Side) (e : Edit) → next ≡ record { live = record { flushed = side.live.flushed; document = edited side.live.document e; marks = next.live.marks }; published = side.published } → PageStands s (Change e ∷ xs) r side → PageStands s xs r next
 page_changes s xs r side next e is h = subst (PageStands s xs r) (sym is) (record {
   before = h.before ++ Change e ∷ [];
   few = h.few;
@@ -85,7 +86,7 @@ next_entry s xs r side b n e f h =
 pub room : (s : Script) (xs : List PageLine) (r : PageRecord) (side : Side) → PageStands s (Flush ∷ xs) r side → side.published < 65537
 room s xs r side h = let a = page_may_publish s xs r side h in let b = cap_most s.page r.seen in let c = h.few in let d = h.count in omega arith
 
-pub page_flushes : (s : Script) (xs : List PageLine) (r new : PageRecord) (side next : Side) → new ≡ published_more r → next ≡ record { live = record { flushed = tree side.live.document; document = side.live.document }; published = side.published + 1 } → PageStands s (Flush ∷ xs) r side → PageStands s xs new next
+pub page_flushes : (s : Script) (xs : List PageLine) (r new : PageRecord) (side next : Side) → new ≡ published_more r → next ≡ record { live = unmarked (tree side.live.document) side.live.document; published = side.published + 1 } → PageStands s (Flush ∷ xs) r side → PageStands s xs new next
 page_flushes s xs r new side next e f h = subst (λ (y : PageRecord × Side). PageStands s xs y.0 y.1) (λ i. (sym e i, sym f i)) (record {
   before = h.before ++ Flush ∷ [];
   few = h.few;

@@ -6,6 +6,7 @@ ghost use Rattle.ax_record.specs.Records.{tree};
 ghost use Rattle.story_check.specs.declared.story.PageLine.{PageLine};
 ghost use Rattle.story_check.specs.declared.story.PageLine.TheVariants.{Flush};
 ghost use Rattle.story_check.specs.Moments.{tree_at, document_at, MayBeDone, IsAccepted};
+ghost use Rattle.live_tree.specs.LiveTrees.{unmarked};
 ghost use Rattle.ax_port.specs.States.{SamePage, published_more};
 ghost use Rattle.page_thread.specs.Pages.{Looked, PageStands, LineDid, PageDid};
 
@@ -44,7 +45,7 @@ pub fn page_work<R: Wait, G: Gate>(
     requires story { port.story ≡ story.now }
     requires accepted { IsAccepted story.now }
     requires fresh { port.page ≡ new_page }
-    requires live { live ≡ record { flushed = tree_at story.now 0; document = document_at story.now 0 } }
+    requires live { live ≡ unmarked (tree_at story.now 0) (document_at story.now 0) }
     ensures own { SamePage port result.0 }
     ensures over { result.0.page.over ≡ true }
     ensures did { PageDid story.now result.0.page result.1 }
@@ -94,7 +95,7 @@ fn line_done<R: Wait>(
 /// Edits the document. Nothing refuses the edit, so only memory can be wanting.
 fn changed(alloc: Global, side: Side, edit: &Edit) -> Result<Side, NoMemory>
     requires { MayBeDone side.live.document edit.now }
-    ensures { IfOk result (λ next. next ≡ record { live = record { flushed = side.live.flushed; document = edited side.live.document edit.now }; published = side.published }) }
+    ensures { IfOk result (λ next. next ≡ record { live = record { flushed = side.live.flushed; document = edited side.live.document edit.now; marks = next.live.marks }; published = side.published }) }
 {
     let Side {
         mut live,
@@ -118,7 +119,7 @@ fn flushed<R: Wait>(
     requires stands { (left : List PageLine) × PageStands port.old.story (Flush ∷ left) port.old.page side }
     ensures own { SamePage port.old port.new }
     ensures page { OnOk result (port.new.page ≡ published_more port.old.page) }
-    ensures side { IfOk result (λ next. next ≡ record { live = record { flushed = tree side.live.document; document = side.live.document }; published = side.published + 1 }) }
+    ensures side { IfOk result (λ next. next ≡ record { live = unmarked (tree side.live.document) side.live.document; published = side.published + 1 }) }
 {
     let Side { live, published } = side;
     let next = Moment(published + 1);

@@ -3,7 +3,7 @@ use Rattle.story_check.specs.Stories.{Script, flushes}
 use Rattle.story_check.specs.Moments.{tree_at, AreTrees}
 use Rattle.story_check.specs.declared.story.ClientLine.{ClientLine}
 use Rattle.story_check.proofs.Trees.{are_trees}
-use Rattle.ax_session.proofs.Ending.{page_facts_at, client_facts_at, live_starts, tree_starts}
+use Rattle.ax_session.proofs.Ending.{page_facts_at, client_facts_at, live_starts, tree_starts, told_legal}
 use Rattle.ax_session.proofs.threads.run_threads.Goals as goal
 
 pub pair-requires-clause-page : goal.pair-requires-clause-page
@@ -33,3 +33,6 @@ pub settle-requires-clause-client : goal.settle-requires-clause-client
 settle-requires-clause-client g c =
     let last = c.finish-last.ensures in
     client_facts_at c.args.story.now c.in_ok-ports.ports.story c.in_ok-ports.client.story _ _ _ _ _ c.in_ok-ports.ensures.stories.0 c.in_ok-ports.ensures.stories.2 last.published last.taken c.in-Some.ensures.client.1 last.last
+
+pub returns-clause-legal : goal.returns-clause-legal
+returns-clause-legal g c = told_legal c.args.story.now c.in_ok-ports.client.story c.in-Some.page-1-given.0.0.1.0.client _ _ c.in_ok-ports.ensures.stories.2 c.in-Some.ensures.client.1 c.settle.ensures.told
