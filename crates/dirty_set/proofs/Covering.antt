@@ -16,7 +16,7 @@ use Rattle.dom_ids.specs.References.{is_text_in, names_text}
 use Rattle.dirty_set.specs.Reach.{Marked, joined_marks, is_at_marks, is_focus, is_source, ties_to, is_tied, is_label_of, is_label_of_tied, is_touched, is_reached}
 use Rattle.dirty_set.specs.Covers.{IsSame, Covers}
 use Rattle.dirty_set.proofs.Tests.{none_at, none, any_less}
-use Rattle.dirty_set.proofs.Follows.{Follows, lineage_same, quiet_unrooted, quiet_was, quiet_body, quiet_children, subtree_same, hidden_same, out_same, live_same, kids_same, said0_same, said_all_same}
+use Rattle.dirty_set.proofs.Follows.{Follows, lineage_same, quiet_unrooted, quiet_was, quiet_body, quiet_children, subtree_same, hidden_same, pruned_same, out_same, live_same, kids_same, said0_same, said_all_same}
 use Rattle.dirty_set.proofs.Texts.{IsCalm, itself, known_by, carried_id, calm_quiet, calm_within, tie_free, untied, said1_same, name_same, description_same}
 
 same_on : (a b c : Document) (n : ℕ) → IsSame a b n → IsSame b c n → IsSame a c n
@@ -25,6 +25,7 @@ same_on a b c n p q = record {
   body_same = p.body_same ∙ q.body_same;
   children_same = p.children_same ∙ q.children_same;
   hidden = p.hidden ∙ q.hidden;
+  pruned = p.pruned ∙ q.pruned;
   out = p.out ∙ q.out;
   live = p.live ∙ q.live;
   kids_are = p.kids_are ∙ q.kids_are;
@@ -37,7 +38,7 @@ same_on a b c n p q = record {
 
 -- with no edit nothing differs
 pub covers_none : (d : Document) (m : Marked) → Covers d d m
-covers_none d m n there off = record { was = there; body_same = refl; children_same = refl; hidden = refl; out = refl; live = refl; kids_are = refl; said = refl; all_said = refl; part_said = refl; name = refl; description = refl }
+covers_none d m n there off = record { was = there; body_same = refl; children_same = refl; hidden = refl; pruned = refl; out = refl; live = refl; kids_are = refl; said = refl; all_said = refl; part_said = refl; name = refl; description = refl }
 
 module _ (old now : Document) (m : Marked) (s : Follows old now m) where
   pub calm_same : (n : ℕ) → IsCalm old now m s n → IsSame old now n
@@ -49,6 +50,7 @@ module _ (old now : Document) (m : Marked) (s : Follows old now m) where
         body_same = quiet_body old now m s n quiet;
         children_same = quiet_children old now m s n quiet;
         hidden = hidden_same old now m s n un;
+        pruned = pruned_same old now m s n un;
         out = out_same old now m s n un;
         live = live_same old now m s n un;
         kids_are = kids_same old now m s n quiet;

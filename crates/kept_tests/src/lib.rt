@@ -6,3 +6,5 @@
 mod contexts_and_kids;
 #[cfg(test)]
 mod edits;
+#[cfg(test)]
+mod marked;
