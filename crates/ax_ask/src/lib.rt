@@ -9,7 +9,7 @@ mod states;
 mod transcripts;
 mod words;
 
-pub use print::{print_reply, print_transcript, push_entry, push_reply};
+pub use print::{print_reply, print_transcript};
 pub use replies::{Placing, Reply};
 pub use requests::{Marker, Request, SearchKey, SearchKeys, SearchRequest};
 pub use transcripts::{Entries, Entry, EntryBody, Transcript};

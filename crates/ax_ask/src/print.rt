@@ -35,8 +35,8 @@ pub fn print_transcript(alloc: Global, t: &Transcript) -> Result<Text, NoMemory>
     Ok(Text::from_string(out))
 }
 
-/// Adds the text of a reply, without an end of line. At an error a part of it may have been added.
-pub fn push_reply(out: &mut String, reply: &Reply) -> Result<(), NoMemory>
+/// Adds the text of a reply, without an end of line.
+fn push_reply(out: &mut String, reply: &Reply) -> Result<(), NoMemory>
     ensures { OnOk result (string_bytes out.new ≡ string_bytes out.old ++ reply_text reply.now) }
 {
     match reply {
@@ -114,9 +114,8 @@ fn push_found(out: &mut String, ids: &Ids) -> Result<(), NoMemory>
     push_ids(out, ids.as_slice())
 }
 
-/// Adds the text of an entry: its line and, for notices, a line for each, with their ends. At an error a part of it may
-/// have been added.
-pub fn push_entry(out: &mut String, entry: &Entry) -> Result<(), NoMemory>
+/// Adds the text of an entry: its line and, for notices, a line for each, with their ends.
+fn push_entry(out: &mut String, entry: &Entry) -> Result<(), NoMemory>
     ensures { OnOk result (string_bytes out.new ≡ string_bytes out.old ++ entry_text entry.now) }
 {
     push_head(out, entry.number, entry.moment)?;

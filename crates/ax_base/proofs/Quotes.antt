@@ -1,5 +1,5 @@
 -- Texts in which nothing is escaped.
-use Rattle.std.proofs.Common.{◌≡◌, ◌≢◌, ℕ, ◌+◌, ◌/◌, ◌≤◌, List, [], ◌∷◌, ◌++◌, Bool, true, false, cond, not, ◌&&◌, refl, sym, ap, ◌∙◌, subst, arith, ltb, leb, ◌==◌, eqb}
+use Rattle.std.proofs.Common.{◌≡◌, ◌≢◌, ℕ, ◌+◌, ◌/◌, ◌≤◌, List, [], ◌∷◌, ◌++◌, Bool, true, false, cond, not, ◌&&◌, refl, sym, ap, ◌∙◌, append_assoc, subst, arith, ltb, leb, ◌==◌, eqb}
 use Rattle.std.specs.Prelude.{encode_utf8}
 use Rattle.std.specs.Str.{IsUtf8, chars}
 use Rattle.std.specs.List.{flat_map, list_all}
@@ -61,3 +61,13 @@ plain_chars (c ∷ cs) all =
 pub plain_text : (text : Chars) → IsUtf8 text → list_all stands_for_itself text ≡ true → text ≡ flat_map quoted_char (chars text)
 plain_text text utf8 all =
     sym (plain_chars (chars text) (subst (λ t. list_all stands_for_itself t ≡ true) (sym (encodes-chars text utf8)) all) ∙ encodes-chars text utf8)
+
+-- a quote, a text and a quote, put in one after another
+pub between_quotes : {old room first most whole : Chars} {text written : Chars} → room ≡ old → first ≡ room ++ 34 ∷ [] → most ≡ first ++ text → whole ≡ most ++ 34 ∷ []
+    → text ≡ written → whole ≡ old ++ 34 ∷ (written ++ 34 ∷ [])
+between_quotes {old} {room} {first} {most} {whole} {text} {written} is_room is_first is_most is_whole same =
+    is_whole
+    ∙ ap (λ l. l ++ 34 ∷ []) (is_most ∙ ap (λ l. l ++ text) (is_first ∙ ap (λ l. l ++ 34 ∷ []) is_room))
+    ∙ ap (λ l. ((old ++ 34 ∷ []) ++ l) ++ 34 ∷ []) same
+    ∙ append_assoc (old ++ 34 ∷ []) written (34 ∷ [])
+    ∙ append_assoc old (34 ∷ []) (written ++ 34 ∷ [])

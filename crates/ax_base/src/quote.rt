@@ -1,39 +1,49 @@
 //! Texts between quotes.
-ghost use Rattle.std.specs.Prelude.{◌≡◌, ◌<◌, ◌/◌, ◌%◌, ◌++◌, ◌∷◌, [], codes, OnOk, string_bytes};
+ghost use Rattle.std.specs.Prelude.{◌≡◌, ◌<◌, ◌/◌, ◌%◌, ◌++◌, ◌∷◌, [], true, codes, IfOk, OnOk, OnErr, string_bytes};
 ghost use Rattle.std.specs.List.{flat_map, list_all};
 ghost use Rattle.std.specs.Str.{chars};
 ghost use Rattle.ax_base.specs.Quoting.{hex_digit, quoted, quoted_char, stands_for_itself};
 
 use crate::NoMemory;
-use std::alloc::AllocError;
+use std::alloc::{AllocError, Global};
 
 /// Adds a text between quotes, as JSON writes strings: `\"`, `\\`, `\b`, `\f`, `\n`, `\r`, `\t`, other characters below
-/// U+0020 as `\u00` and two lower-case hexadecimal digits, and all others as they are.
+/// U+0020 as `\u00` and two lower-case hexadecimal digits, and all others as they are. At an error nothing changes.
 pub fn push_quoted(out: &mut String, text: &str) -> Result<(), NoMemory>
-    ensures { OnOk result (string_bytes out.new ≡ string_bytes out.old ++ quoted text.now) }
-{
-    push_all(out, text)?;
-    Ok(())
-}
-
-fn push_all(out: &mut String, text: &str) -> Result<(), AllocError>
-    ensures { OnOk result (string_bytes out.new ≡ string_bytes out.old ++ quoted text.now) }
-{
-    out.push('"')?;
-    push_inner(out, text)?;
-    out.push('"')?;
-    Ok(())
-}
-
-/// Adds what stands between the quotes: a text in which nothing is escaped in one piece.
-fn push_inner(out: &mut String, text: &str) -> Result<(), AllocError>
-    ensures { OnOk result (string_bytes out.new ≡ string_bytes out.old ++ flat_map quoted_char (chars text.now)) }
+    ensures ok { OnOk result (string_bytes out.new ≡ string_bytes out.old ++ quoted text.now) }
+    ensures err { OnErr result (string_bytes out.new ≡ string_bytes out.old) }
 {
     if is_plain(text) {
-        out.push_str(text)?;
+        push_plain(out, text)?;
         return Ok(());
     }
-    push_each(out, text)
+    let escaped = escaped(*out.allocator(), text)?;
+    out.push_str(escaped.as_str())?;
+    Ok(())
+}
+
+/// Adds a text in which nothing is escaped: it asks for all the room first, so that nothing changes at an error.
+fn push_plain(out: &mut String, text: &str) -> Result<(), AllocError>
+    requires plain { list_all stands_for_itself text.now ≡ true }
+    ensures ok { OnOk result (string_bytes out.new ≡ string_bytes out.old ++ quoted text.now) }
+    ensures err { OnErr result (string_bytes out.new ≡ string_bytes out.old) }
+{
+    out.reserve(text.len() + 2)?;
+    out.push('"')?;
+    out.push_str(text)?;
+    out.push('"')?;
+    Ok(())
+}
+
+/// A text between quotes.
+fn escaped(alloc: Global, text: &str) -> Result<String, AllocError>
+    ensures { IfOk result (λ s. string_bytes s ≡ quoted text.now) }
+{
+    let mut out = String::new(alloc);
+    out.push('"')?;
+    push_each(&mut out, text)?;
+    out.push('"')?;
+    Ok(out)
 }
 
 /// Whether nothing in a text is escaped.
