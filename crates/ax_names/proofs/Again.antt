@@ -1,7 +1,7 @@
 -- A flat text is flat.
-use Rattle.std.proofs.Common.{◌≡◌, ℕ, [], ◌∷◌, ◌++◌, Bool, true, false, cond, refl, sym, ap, ◌∙◌}
+use Rattle.std.proofs.Common.{◌≡◌, ℕ, [], ◌∷◌, ◌++◌, Bool, true, false, cond, not, ◌&&◌, refl, sym, ap, ◌∙◌}
 use Rattle.ax_base.specs.Characters.{Chars, is_white, flat}
-use Rattle.ax_names.specs.Pieces.{begins_white, ends_white, opening_of, piece_of, flattened}
+use Rattle.ax_names.specs.Pieces.{begins_white, ends_white, is_longer, opening_of, piece_of, flattened}
 use Rattle.ax_names.proofs.Added.{space, added, flat_added, ink_step}
 
 -- what was added is added again
@@ -55,11 +55,15 @@ ends : (t : Chars) (white : Bool) → ends_white (added false white t) ≡ false
 ends [] white = refl
 ends (c ∷ cs) white = ends-step c cs (ends cs true) (is_white c) refl
 
+and_false : (x : Bool) → (x && false) ≡ false
+and_false true = refl
+and_false false = refl
+
 -- what is kept of a text tells what is kept of the flat text
 pub flat_kept : (t : Chars) → piece_of (flat t) ≡ flattened (piece_of t)
 unfolding piece_of
 flat_kept t = λ i. record {
   opening = opening_of (flat_twice t i);
   starts = (ap begins_white (flat_added t false) ∙ begins t false) i;
-  ends = (ap ends_white (flat_added t false) ∙ ends t false) i;
+  ends = (ap (λ e. not (is_longer (flat (flat t))) && e) (ap ends_white (flat_added t false) ∙ ends t false) ∙ and_false (not (is_longer (flat (flat t))))) i;
 }

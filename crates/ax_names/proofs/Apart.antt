@@ -37,10 +37,10 @@ pub first_apart : (x : Chars) (ts : List Chars) → joined_by_spaces (x ∷ ts) 
 first_apart [] ts = refl
 first_apart (c ∷ cs) ts = ap (λ (l : List Chars). join_with_byte 32 l) (some_of-more c cs ts) ∙ join_two (c ∷ cs) (some_of ts) (none_or_some ts) refl
 
-flat_space : (t : Chars) → flat (32 ∷ t) ≡ flat t
+pub flat_space : (t : Chars) → flat (32 ∷ t) ≡ flat t
 flat_space t = flat_added (32 ∷ t) false ∙ sym (flat_added t true)
 
-and_false : (x : Bool) → (x && false) ≡ false
+pub and_false : (x : Bool) → (x && false) ≡ false
 and_false true = refl
 and_false false = refl
 

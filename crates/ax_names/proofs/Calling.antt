@@ -1,7 +1,6 @@
 -- What an element is called, by the cell that was read.
-use Rattle.std.proofs.Common.{◌≡◌, ℕ, Bool, true, false, cond, not, ◌&&◌, ◌==◌, Some, List, [], ◌∷◌, ◌++◌, codes, length, refl, sym, ap, ◌∙◌, arith}
+use Rattle.std.proofs.Common.{◌≡◌, ℕ, Bool, true, false, cond, not, ◌&&◌, ◌==◌, Some, List, [], ◌∷◌, ◌++◌, codes, refl, sym, ap, ◌∙◌}
 use Rattle.std.specs.Option.{option_map_or}
-use Rattle.std.proofs.lemmas.Bool.Decides.{nat_tests}
 use Rattle.ax_base.specs.declared.attrs.Attr.{Attr}
 use Rattle.ax_base.specs.declared.body.Body.{Body}
 use Rattle.ax_base.specs.declared.body.Body.TheVariants.{Element, Words}
@@ -9,14 +8,16 @@ use Rattle.ax_base.specs.declared.rect.Rect.{Rect}
 use Rattle.ax_base.specs.declared.rect.Run.{Run}
 use Rattle.ax_base.specs.declared.role.Role.{Role}
 use Rattle.ax_base.specs.Characters.{Chars, is_blank, flat, cut, first_said}
+use Rattle.ax_base.specs.Values.{text_in}
 use Rattle.ax_base.specs.Document.{Document, root, body, spot, target, text_of}
 use Rattle.ax_base.specs.Roles.{role, role_of}
 use Rattle.ax_base.specs.NamedRoles.{names_from_content, name_prohibited}
 use Rattle.ax_base.specs.References.{referred_node}
 use Rattle.ax_base.specs.AccessibleNames.{first_label, labelled_text, host_label, content_text, naming_texts, naming_text, title_of, describing_text, is_named_by_title, name_of, description_of}
 use Rattle.ax_names.specs.Pieces.{Phrase, piece_of, joined}
-use Rattle.ax_names.specs.OwnTexts.{said_or, title_said}
-use Rattle.ax_names.specs.Sessions.{referred_by, called_by, element_name, is_named_late, element_description}
+use Rattle.ax_names.specs.declared.naming.Named.{Named}
+use Rattle.ax_names.specs.OwnTexts.{said_or, title_said, described_from}
+use Rattle.ax_names.specs.Sessions.{referred_by, called_by, element_name, is_named_late, element_description, named_by}
 use Rattle.ax_names.proofs.Added.{flat_nil}
 use Rattle.ax_names.proofs.Openings.{take_nil}
 
@@ -70,7 +71,7 @@ module _ (d : Document) (n : ℕ) (b : Body) (is : b ≡ body d n) where
     called_is : called_by d n r tag attrs ≡ first_said (naming_texts d n)
     called_is = λ i. first_said (texts d n (body_is i) (role_is i))
 
-    late_is : is_named_late d n r tag attrs ≡ is_named_by_title d n
+    pub late_is : is_named_late d n r tag attrs ≡ is_named_by_title d n
     late_is = λ i. not (name_prohibited (role_is i)) && is_blank (called_is i)
 
     turned : (p : Bool) (x y : Chars) → cond p x y ≡ cond (not p) y x
@@ -98,15 +99,11 @@ module _ (d : Document) (n : ℕ) (b : Body) (is : b ≡ body d n) where
         )
         ∙ ap (λ v. cut (flat (describing_text d n v))) body_is
 
--- where nothing refers and there is no `title`, nothing describes
-pub nothing_described : (late : Bool) (referred title : Chars) → is_blank referred ≡ true → title ≡ [] → cut (flat title) ≡ cut (flat (said_or referred (cond late [] title)))
-nothing_described late referred title blank none = ap (λ t. cut (flat t)) (none ∙ sym (either late) ∙ sym (ap (λ b. cond b (cond late [] title) referred) blank))
-  where
-    either : (b : Bool) → cond b [] title ≡ []
-    either true = refl
-    either false = none
+    -- the same of what was made
+    pub made_named : (named : Chars) → named ≡ tag → (made : Named) → made ≡ named_by d n r named attrs → made.name ≡ name_of d n
+    made_named named same made is_made = ap (λ (x : Named). x.name) is_made ∙ name_is named same
 
--- a text that has no byte is empty
-pub nothing_in : (t : Chars) (b : Bool) → b ≡ (length t == 0) → b ≡ true → t ≡ []
-nothing_in [] b told e = refl
-nothing_in (c ∷ cs) b told e = let there : (length (c ∷ cs) == 0) ≡ true = sym told ∙ e in grind (arith, nat_tests)
+    pub made_described : (named : Chars) → named ≡ tag → (made : Named) → made ≡ named_by d n r named attrs
+        → (said : Chars) → said ≡ described_from attrs (referred_by d (text_in (codes "aria-describedby") attrs)) made.by_title → said ≡ description_of d n
+    made_described named same made is_made said told =
+        told ∙ ap (λ (x : Named). described_from attrs (referred_by d (text_in (codes "aria-describedby") attrs)) x.by_title) is_made ∙ description_is named same

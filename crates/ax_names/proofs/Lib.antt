@@ -5,12 +5,15 @@ pub mod Joining
 pub mod Putting
 pub mod Again
 pub mod Apart
-mod Speaking
+pub mod Between
+mod Turns
+mod NamedBy
+pub mod Speaking
 mod Above
-mod Known
-mod Referring
+pub mod Known
+pub mod Referring
 mod Firsts
-mod Showing
-mod Calling
+pub mod Showing
+pub mod Calling
 mod Whole
 pub mod Evenly

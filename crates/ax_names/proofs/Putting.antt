@@ -1,5 +1,5 @@
 -- Characters that are put in one at a time.
-use Rattle.std.proofs.Common.{◌≡◌, ℕ, ◌<◌, List, [], ◌∷◌, ◌++◌, length, get_or, drop, map, Bool, true, false, cond, not, ◌&&◌, ◌||◌, ◌==◌, refl, sym, ap, ◌∙◌, arith, append_assoc, append-nil}
+use Rattle.std.proofs.Common.{◌≡◌, ℕ, ◌<◌, List, [], ◌∷◌, ◌++◌, length, get_or, drop, Bool, true, false, cond, not, ◌&&◌, ◌||◌, ◌==◌, refl, sym, ap, ◌∙◌, arith, append_assoc, append-nil}
 use Rattle.std.specs.Prelude.{encode_utf8}
 use Rattle.std.specs.Str.{IsUtf8, chars}
 use Rattle.std.proofs.lemmas.Str.{encodes-chars}
@@ -7,7 +7,6 @@ use Rattle.std.proofs.lemmas.List.{drop_more, at_drop_all, length_push}
 use Rattle.std.proofs.lemmas.Bool.Decides.{nat_tests}
 use lib.Utf8.{encode, encodes}
 use Rattle.ax_base.specs.Characters.{Chars, is_white, flat}
-use Rattle.ax_base.proofs.CutCharacters.{same_items, encodes-push}
 use Rattle.ax_names.specs.Pieces.{Opening, is_empty, begins_white, followed, space_behind, spaced}
 use Rattle.ax_names.proofs.Openings.{with_words, followed_twice, some_last}
 use Rattle.ax_names.proofs.Added.{space, added, spaced_added, white_added, ink_added}
@@ -50,16 +49,6 @@ spaced_char out white c = ap (λ (w : Bool). space_behind out w ++ encode c) (ap
 pub ink_then : (old mid new : Opening) (white : Bool) (c : ℕ) → mid ≡ followed old (space_behind old.words white) → new ≡ followed mid (encode_utf8 c) → new ≡ followed old (spaced old.words white (encode_utf8 c))
 ink_then old mid new white c is more =
     more ∙ ap (λ (o : Opening). followed o (encode c)) is ∙ followed_twice old (space_behind old.words white) (encode c) ∙ ap (followed old) (sym (spaced_char old.words white c))
-
--- one more character
-pub one_more : (start front new : Opening) (cs : List ℕ) (c : ℕ) → front ≡ followed start (encodes cs) → new ≡ followed front (encode_utf8 c) → new ≡ followed start (encodes (cs ++ c ∷ []))
-one_more start front new cs c is more =
-    more ∙ ap (λ (o : Opening). followed o (encode c)) is ∙ followed_twice start (encodes cs) (encode c)
-    ∙ ap (followed start) (encodes-push cs c (encodes cs) (encodes cs ++ encode c) refl refl)
-
--- all characters
-pub all_put : (start new : Opening) (t : Chars) (yielded : List ℕ) → IsUtf8 t → new ≡ followed start (encodes yielded) → map (λ (x : ℕ). x) yielded ≡ chars t → new ≡ followed start t
-all_put start new t yielded utf8 is all = is ∙ ap (followed start) (ap encodes (sym (same_items yielded) ∙ all) ∙ encodes-chars t utf8)
 
 -- a text that is made flat
 
@@ -127,3 +116,32 @@ module _ (start : Opening) (before : Bool) (t : Chars) (out : Opening) (white : 
   -- nothing is left
   pub flat_end : length yielded ≡ length (chars t) → out ≡ followed start (spaced start.words (before || begins_white t) (flat t))
   flat_end all = sym so_far.stays ∙ ap (after out white) (sym (at_drop_all encodes (chars t) (length yielded) (omega arith))) ∙ so_far.comes
+
+-- a text that is put in as it is
+
+-- what is put in so far, and what is left of the text, come to what the whole text comes to
+pub record IsPutSoFar (start : Opening) (t : Chars) (out : Opening) (yielded : List ℕ) : Type 0 where
+  pub stays : followed out [] ≡ out
+  pub comes : followed out (encodes (left t yielded)) ≡ followed start t
+
+pub put_start : (o : Opening) (t : Chars) → IsUtf8 t → o ≡ followed o [] → IsPutSoFar o t o []
+put_start o t utf8 stays = record { stays = sym stays; comes = ap (followed o) (encodes-chars t utf8) }
+
+module _ (start : Opening) (t : Chars) (out : Opening) (yielded : List ℕ) (so_far : IsPutSoFar start t out yielded) where
+  pub put_more : (c : ℕ) (new : Opening) → IsTurn t yielded c → new ≡ followed out (encode_utf8 c) → IsPutSoFar start t new (yielded ++ c ∷ [])
+  put_more c new turn is = record {
+    stays = ap (λ (o : Opening). followed o []) is ∙ followed_twice out (encode c) [] ∙ ap (followed out) (append-nil (encode c)) ∙ sym is;
+    comes = ap (λ (o : Opening). followed o (encodes (left t (yielded ++ c ∷ [])))) is ∙ followed_twice out (encode c) (encodes (left t (yielded ++ c ∷ []))) ∙ ap (followed out) (sym (left_turn t yielded c turn)) ∙ so_far.comes;
+  }
+
+  -- nothing changes any more
+  pub put_enough : out.more ≡ true → out ≡ followed start t
+  put_enough full = sym (full_stays out.words out.more full) ∙ so_far.comes
+    where
+      full_stays : (w : Chars) (m : Bool) → m ≡ true → followed (with_words w m) (encodes (left t yielded)) ≡ with_words w m
+      full_stays w true full = refl
+      full_stays w false full = absurd (cc)
+
+  -- nothing is left
+  pub put_end : length yielded ≡ length (chars t) → out ≡ followed start t
+  put_end all = sym so_far.stays ∙ ap (followed out) (sym (at_drop_all encodes (chars t) (length yielded) (omega arith))) ∙ so_far.comes

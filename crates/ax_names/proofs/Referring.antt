@@ -8,25 +8,25 @@ use Rattle.ax_base.specs.Document.{Document, target}
 use Rattle.ax_base.specs.References.{referred_node, referred_text}
 use Rattle.ax_base.specs.Said.{said0, said_all}
 use Rattle.ax_names.specs.Pieces.{Phrase, piece_of, joined, flattened, all_apart}
-use Rattle.ax_names.specs.Sessions.{all_referred, referred_by}
+use Rattle.ax_names.specs.Sessions.{referred_by}
 use Rattle.ax_names.proofs.Again.{flat_twice}
 
 -- what a node says that is referred to, before it is made flat
 abbrev said : Document → ℕ → Chars
 said d n = cond (is_hidden d n) (said_all d n) (said0 d n)
 
--- what so many of some tokens refer to, each behind a space
-abbrev pub apart : Document → ℕ → List Chars → Chars
-apart d most ts = all_apart (map (referred_text d) (take most ts))
+-- what so many of some tokens say, each behind a space
+abbrev pub apart : (Chars → Chars) → ℕ → List Chars → Chars
+apart say most ts = all_apart (map say (take most ts))
 
 -- what is kept is that of the tokens so far, and those that are left make it whole
-pub record IsReferredSoFar (d : Document) (text rest : Chars) (k : ℕ) (kept : Phrase) : Type 0 where
+pub record IsReferredSoFar (say : Chars → Chars) (text rest : Chars) (k : ℕ) (kept : Phrase) : Type 0 where
   pub done : Chars
   pub same : kept ≡ piece_of done
-  pub whole : done ++ apart d (8 - k) (tokens rest) ≡ apart d 8 (tokens text)
+  pub whole : done ++ apart say (8 - k) (tokens rest) ≡ apart say 8 (tokens text)
 
 -- what a token refers to is flat already
-referred_flat : (d : Document) (token : Chars) → flat (referred_text d token) ≡ referred_text d token
+pub referred_flat : (d : Document) (token : Chars) → flat (referred_text d token) ≡ referred_text d token
 unfolding flat tokens
 referred_flat d token = go (target d token)
   where
@@ -34,45 +34,47 @@ referred_flat d token = go (target d token)
     go None = refl
     go (Some n) = flat_twice (said d n)
 
-all_flat : (d : Document) (ts : List Chars) → map flat (map (referred_text d) ts) ≡ map (referred_text d) ts
-all_flat d [] = refl
-all_flat d (t ∷ ts) = λ i. referred_flat d t i ∷ all_flat d ts i
+-- Where what tokens say is what they refer to once it is flat:
+module _ (d : Document) (say : Chars → Chars) (law : (token : Chars) → flat (say token) ≡ referred_text d token) where
+  all_flat : (ts : List Chars) → map flat (map say ts) ≡ map (referred_text d) ts
+  all_flat [] = refl
+  all_flat (t ∷ ts) = λ i. law t i ∷ all_flat ts i
 
--- joined by single spaces it is what the piece of each behind a space gives once it is flat
-pub joined_flat : (d : Document) (text : Chars) → ((ts : List Chars) → piece_of (joined_by_spaces (map flat ts)) ≡ flattened (piece_of (all_apart ts))) → (old new : Phrase)
-    → old ≡ piece_of (all_apart (all_referred d text)) → new ≡ flattened old → new ≡ piece_of (referred_by d text)
-joined_flat d text apart_tells old new is flat_is =
-    flat_is ∙ ap flattened is ∙ sym (apart_tells (all_referred d text)) ∙ ap (λ ts. piece_of (joined_by_spaces ts)) (all_flat d (take 8 (tokens text)))
+  -- joined by single spaces it is what the piece of each behind a space gives once it is flat
+  pub joined_flat : (text : Chars) → ((ts : List Chars) → piece_of (joined_by_spaces (map flat ts)) ≡ flattened (piece_of (all_apart ts))) → (old new : Phrase)
+      → old ≡ piece_of (apart say 8 (tokens text)) → new ≡ flattened old → new ≡ piece_of (referred_by d text)
+  joined_flat text apart_tells old new is flat_is =
+      flat_is ∙ ap flattened is ∙ sym (apart_tells (map say (take 8 (tokens text)))) ∙ ap (λ ts. piece_of (joined_by_spaces ts)) (all_flat (take 8 (tokens text)))
 
-module _ (d : Document) (text : Chars) where
-  pub none_yet : (kept : Phrase) → kept ≡ piece_of [] → IsReferredSoFar d text text 0 kept
+module _ (say : Chars → Chars) (text : Chars) where
+  pub none_yet : (kept : Phrase) → kept ≡ piece_of [] → IsReferredSoFar say text text 0 kept
   none_yet kept is = record { done = []; same = is; whole = refl }
 
   -- where no token is left, nor where eight were read, all is done
-  none_left : (rest : Chars) (k : ℕ) (kept : Phrase) → IsReferredSoFar d text rest k kept → apart d (8 - k) (tokens rest) ≡ [] → kept ≡ piece_of (apart d 8 (tokens text))
+  none_left : (rest : Chars) (k : ℕ) (kept : Phrase) → IsReferredSoFar say text rest k kept → apart say (8 - k) (tokens rest) ≡ [] → kept ≡ piece_of (apart say 8 (tokens text))
   none_left rest k kept so_far out = so_far.same ∙ ap piece_of (sym (ap (λ l. so_far.done ++ l) out ∙ append-nil so_far.done) ∙ so_far.whole)
 
-  take_none : (n : ℕ) → apart d n [] ≡ []
+  take_none : (n : ℕ) → apart say n [] ≡ []
   take_none zero = refl
   take_none (suc m) = refl
 
-  pub at_end : (rest : Chars) (k : ℕ) (kept : Phrase) → IsReferredSoFar d text rest k kept → tokens rest ≡ [] → kept ≡ piece_of (apart d 8 (tokens text))
-  at_end rest k kept so_far out = none_left rest k kept so_far (ap (apart d (8 - k)) out ∙ take_none (8 - k))
+  pub at_end : (rest : Chars) (k : ℕ) (kept : Phrase) → IsReferredSoFar say text rest k kept → tokens rest ≡ [] → kept ≡ piece_of (apart say 8 (tokens text))
+  at_end rest k kept so_far out = none_left rest k kept so_far (ap (apart say (8 - k)) out ∙ take_none (8 - k))
 
-  pub at_eight : (rest : Chars) (k : ℕ) (kept : Phrase) → IsReferredSoFar d text rest k kept → 8 ≤ k → kept ≡ piece_of (apart d 8 (tokens text))
-  at_eight rest k kept so_far many = let none : 8 - k ≡ 0 = omega arith in none_left rest k kept so_far (ap (λ n. apart d n (tokens rest)) none)
+  pub at_eight : (rest : Chars) (k : ℕ) (kept : Phrase) → IsReferredSoFar say text rest k kept → 8 ≤ k → kept ≡ piece_of (apart say 8 (tokens text))
+  at_eight rest k kept so_far many = let none : 8 - k ≡ 0 = omega arith in none_left rest k kept so_far (ap (λ n. apart say n (tokens rest)) none)
 
   -- one more token
-  pub one_more : (rest token after : Chars) (k : ℕ) (old new : Phrase) → IsReferredSoFar d text rest k old → k < 8 → tokens rest ≡ token ∷ tokens after
-      → ((before : Chars) → old ≡ piece_of before → new ≡ piece_of (before ++ 32 ∷ referred_text d token)) → IsReferredSoFar d text after (k + 1) new
+  pub one_more : (rest token after : Chars) (k : ℕ) (old new : Phrase) → IsReferredSoFar say text rest k old → k < 8 → tokens rest ≡ token ∷ tokens after
+      → ((before : Chars) → old ≡ piece_of before → new ≡ piece_of (before ++ 32 ∷ say token)) → IsReferredSoFar say text after (k + 1) new
   one_more rest token after k old new so_far low is added =
-      let more : Chars = 32 ∷ referred_text d token in
+      let more : Chars = 32 ∷ say token in
       let rest_is : 8 - k ≡ suc (8 - (k + 1)) = omega arith in
-      let given : apart d (8 - k) (tokens rest) ≡ more ++ apart d (8 - (k + 1)) (tokens after) = (λ i. apart d (rest_is i) (is i)) in
+      let given : apart say (8 - k) (tokens rest) ≡ more ++ apart say (8 - (k + 1)) (tokens after) = (λ i. apart say (rest_is i) (is i)) in
       record {
         done = so_far.done ++ more;
         same = added so_far.done so_far.same;
-        whole = append_assoc so_far.done more (apart d (8 - (k + 1)) (tokens after)) ∙ ap (λ l. so_far.done ++ l) (sym given) ∙ so_far.whole;
+        whole = append_assoc so_far.done more (apart say (8 - (k + 1)) (tokens after)) ∙ ap (λ l. so_far.done ++ l) (sym given) ∙ so_far.whole;
       }
 
 -- a space and then a text behind another

@@ -44,7 +44,7 @@ one_more_said together text k c cs old said new low is so_far says added =
         ∙ flat_map-append text (take k cs) (c ∷ []) ∙ ap (λ l. flat_map text (take k cs) ++ l) (append-nil (text c))
 
 -- what an element says whose own references count
-shows_is : (referred : Chars) (r : Role) (tag : Chars) (attrs : List Attr) (frame : Rect) (below : Chars) → said_by r referred (Element tag attrs frame) below ≡ element_shows referred r tag attrs below
+pub shows_is : (referred : Chars) (r : Role) (tag : Chars) (attrs : List Attr) (frame : Rect) (below : Chars) → said_by r referred (Element tag attrs frame) below ≡ element_shows referred r tag attrs below
 shows_is referred r tag attrs frame below = ap (λ l. cond (is_blank referred) l referred) (element_is r tag attrs frame below)
 
 module _ (d : Document) (t : IsTree d) (n : ℕ) (b : Body) (is : b ≡ body d n) (h : Bool) (test : h ≡ hides (record { id = n; body = b })) where

@@ -9,8 +9,9 @@ pub record Opening : Type 0 where
   pub words : Chars
   pub more : Bool
 
--- what is kept of a text: the opening of its flat text, and whether the text began with white space, and ended with it.
--- A text of nothing but white space has no words, and began and ended with white space; the empty text has no words, and did neither
+-- what is kept of a text: the opening of its flat text, whether the text began with white space, and whether it ended with it.
+-- A text of nothing but white space has no words, and began and ended with white space; the empty text has no words, and did neither.
+-- How a text ended of which more follows than is kept is not kept, so what is kept of it stays the same whatever follows
 pub record Phrase : Type 0 where
   pub opening : Opening
   pub starts : Bool
@@ -51,7 +52,7 @@ opening_of t = record { words = cut t; more = is_longer t }
 
 -- what is kept of a text
 unfoldable pub piece_of : Chars → Phrase
-piece_of t = record { opening = opening_of (flat t); starts = begins_white t; ends = ends_white t }
+piece_of t = record { opening = opening_of (flat t); starts = begins_white t; ends = not (is_longer (flat t)) && ends_white t }
 
 -- the opening of a text that is followed by another
 abbrev pub followed : Opening → Chars → Opening
@@ -69,17 +70,25 @@ space_behind before white = if not (is_empty before) && white then 32 ∷ [] els
 abbrev pub spaced : Chars → Bool → Chars → Chars
 spaced before white after = space_behind before (white && not (is_empty after)) ++ after
 
+-- the opening of two texts, one behind the other
+abbrev pub joined_opening : Phrase → Phrase → Opening
+joined_opening a b = and_more (followed a.opening (spaced a.opening.words (a.ends || b.starts) b.opening.words)) b.opening.more
+
 -- what is kept of two texts, one behind the other
 unfoldable pub joined : Phrase → Phrase → Phrase
 joined a b = record {
-  opening = and_more (followed a.opening (spaced a.opening.words (a.ends || b.starts) b.opening.words)) b.opening.more;
+  opening = joined_opening a b;
   starts = a.starts || (is_empty a.opening.words && b.starts);
-  ends = b.ends || (is_empty b.opening.words && a.ends);
+  ends = not (joined_opening a b).more && (b.ends || (is_empty b.opening.words && a.ends));
 }
 
 -- what is kept of a text once it is made flat
 abbrev pub flattened : Phrase → Phrase
 flattened p = record { opening = p.opening; starts = false; ends = false }
+
+-- what is kept of a text once a space stands before it and one after it
+abbrev pub between_spaces : Phrase → Phrase
+between_spaces p = record { opening = p.opening; starts = true; ends = not p.opening.more }
 
 -- texts one behind another, each behind a space
 abbrev pub all_apart : List Chars → Chars

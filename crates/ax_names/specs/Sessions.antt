@@ -12,7 +12,8 @@ use Rattle.ax_base.specs.AccessibleNames.{host_label_of, content_text}
 use Rattle.ax_names.specs.declared.session.Names.{Names}
 use Rattle.ax_names.specs.Memos.{Keeps}
 use Rattle.ax_names.specs.Targets.{AreTargetsOf}
-use Rattle.ax_names.specs.OwnTexts.{said_or, title_said, element_called}
+use Rattle.ax_names.specs.declared.naming.Named.{Named}
+use Rattle.ax_names.specs.OwnTexts.{said_or, title_said, element_called, named_from}
 
 -- the look-ups, if they were made, are those of a document, and what is kept is what its nodes say
 pub record AreNamesOf (d : Document) (s : Names) : Type 0 where
@@ -44,3 +45,7 @@ is_named_late d n r tag attrs = not (name_prohibited r) && is_blank (called_by d
 abbrev pub element_description : Document → ℕ → Role → Chars → List Attr → Chars
 element_description d n r tag attrs =
     cut (flat (said_or (referred_by d (text_in (codes "aria-describedby") attrs)) (if is_named_late d n r tag attrs then [] else title_said attrs)))
+
+-- the accessible name of an element of a role, and whether nothing before its `title` names it though it may be named
+abbrev pub named_by : Document → ℕ → Role → Chars → List Attr → Named
+named_by d n r tag attrs = named_from r attrs (referred_by d (text_in (codes "aria-labelledby") attrs)) (host_label_of d n tag attrs) (content_text d n)

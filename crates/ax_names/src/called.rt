@@ -1,14 +1,17 @@
 //! Accessible names and descriptions.
-ghost use Rattle.std.specs.Prelude.{◌≡◌, ◌==◌, IfOk, OnOk};
-ghost use Rattle.ax_base.specs.Characters.{flat, cut};
+ghost use Rattle.std.specs.Prelude.{◌≡◌, ◌==◌, IfOk, OnOk, codes};
+ghost use Rattle.ax_base.specs.Characters.{Chars};
 ghost use Rattle.ax_base.specs.Document.{root};
 ghost use Rattle.ax_base.specs.Roles.{role_of};
+ghost use Rattle.ax_base.specs.Values.{text_in};
 ghost use Rattle.ax_base.specs.AccessibleNames.{labelled_text, host_label_of, name_of, description_of};
 ghost use Rattle.ax_dom.specs.Slots.{cell_of};
 ghost use Rattle.ax_names.specs.Pieces.{piece_of};
-ghost use Rattle.ax_names.specs.Sessions.{AreNamesOf, called_by, element_name, is_named_late, element_description};
+ghost use Rattle.ax_names.specs.OwnTexts.{is_settled, described_from};
+ghost use Rattle.ax_names.specs.Sessions.{AreNamesOf, referred_by, named_by};
 
-use crate::embedded::{is_button_field, title_said};
+use crate::embedded::is_button_field;
+use crate::naming::{Named, element_description, element_name, flat_and_cut};
 use crate::pieces::Piece;
 use crate::pieces_tell;
 use crate::refs::{push_node, referred_by};
@@ -39,7 +42,17 @@ impl Names {
         match &cell.body {
             Body::Words { chars, .. } => flat_and_cut(alloc, chars.as_str()),
             Body::Element { tag, attrs, .. } => {
-                element_name(alloc, dom, self, cell.id, role, tag.as_str(), attrs, steps)
+                let named = element_named(
+                    alloc,
+                    dom,
+                    self,
+                    cell.id,
+                    role,
+                    tag.as_str(),
+                    attrs,
+                    steps,
+                )?;
+                Ok(named.name)
             }
         }
     }
@@ -59,17 +72,58 @@ impl Names {
         ensures value { IfOk result (λ t. t ≡ description_of dom.now cell.now.id) }
         ensures names { OnOk result (AreNamesOf dom.now self.new) }
     {
+        let (_, description) = self.name_and_description(alloc, dom, cell, role, steps)?;
+        Ok(description)
+    }
+
+    /// The accessible name and the accessible description of a node of a role, each at most 512 characters long.
+    pub fn name_and_description<L: Ledger>(
+        &mut self,
+        alloc: Global,
+        dom: &Dom,
+        cell: &Cell,
+        role: Role,
+        steps: &mut Steps<L>,
+    ) -> Result<(Text, Text), NoMemory>
+        requires cell { cell.now ≡ cell_of dom.now cell.now.id }
+        requires role { role ≡ role_of (cell.now.id == root) cell.now.body }
+        requires names { AreNamesOf dom.now self.old }
+        ensures name { IfOk result (λ both. both.0 ≡ name_of dom.now cell.now.id) }
+        ensures description { IfOk result (λ both. both.1 ≡ description_of dom.now cell.now.id) }
+        ensures names { OnOk result (AreNamesOf dom.now self.new) }
+    {
         match &cell.body {
-            Body::Words { .. } => Ok(Text::new(alloc)),
+            Body::Words { chars, .. } => {
+                let name = flat_and_cut(alloc, chars.as_str())?;
+                Ok((name, Text::new(alloc)))
+            }
             Body::Element { tag, attrs, .. } => {
-                element_description(alloc, dom, self, cell.id, role, tag.as_str(), attrs, steps)
+                let named = element_named(
+                    alloc,
+                    dom,
+                    self,
+                    cell.id,
+                    role,
+                    tag.as_str(),
+                    attrs,
+                    steps,
+                )?;
+                let description = element_described(
+                    alloc,
+                    dom,
+                    self,
+                    attrs,
+                    named.by_title,
+                    steps,
+                )?;
+                Ok((named.name, description))
             }
         }
     }
 }
 
-/// The accessible name of an element of a role.
-fn element_name<L: Ledger>(
+/// The accessible name of an element of a role. What comes after a text that names it is not put together.
+fn element_named<L: Ledger>(
     alloc: Global,
     dom: &Dom,
     names: &mut Names,
@@ -78,113 +132,48 @@ fn element_name<L: Ledger>(
     tag: &str,
     attrs: &Attrs,
     steps: &mut Steps<L>,
-) -> Result<Text, NoMemory>
+) -> Result<Named, NoMemory>
     requires names { AreNamesOf dom.now names.old }
-    ensures value { IfOk result (λ t. t ≡ element_name dom.now id role tag.now attrs.now) }
+    ensures value { IfOk result (λ named. named ≡ named_by dom.now id role tag.now attrs.now) }
     ensures names { OnOk result (AreNamesOf dom.now names.new) }
 {
-    pieces_tell();
-    if name_prohibited(role) {
-        return flat_and_cut(alloc, "");
-    }
-    let called = element_called(alloc, dom, names, id, role, tag, attrs, steps)?;
-    if called.is_blank() {
-        return flat_and_cut(alloc, title_said(attrs));
-    }
-    Ok(called.into_name())
-}
-
-/// The accessible description of an element of a role.
-fn element_description<L: Ledger>(
-    alloc: Global,
-    dom: &Dom,
-    names: &mut Names,
-    id: ObjId,
-    role: Role,
-    tag: &str,
-    attrs: &Attrs,
-    steps: &mut Steps<L>,
-) -> Result<Text, NoMemory>
-    requires names { AreNamesOf dom.now names.old }
-    ensures value { IfOk result (λ t. t ≡ element_description dom.now id role tag.now attrs.now) }
-    ensures names { OnOk result (AreNamesOf dom.now names.new) }
-{
-    pieces_tell();
-    let referred = referred_by(alloc, dom, names, attrs.text("aria-describedby"), steps)?;
-    if !referred.is_blank() {
-        return Ok(referred.into_name());
-    }
-    let title = title_said(attrs);
-    if title.is_empty() {
-        return flat_and_cut(alloc, title);
-    }
-    if is_named_by_title(alloc, dom, names, id, role, tag, attrs, steps)? {
-        return flat_and_cut(alloc, "");
-    }
-    flat_and_cut(alloc, title)
-}
-
-/// Whether an element of a role may be named, and nothing before its `title` names it.
-fn is_named_by_title<L: Ledger>(
-    alloc: Global,
-    dom: &Dom,
-    names: &mut Names,
-    id: ObjId,
-    role: Role,
-    tag: &str,
-    attrs: &Attrs,
-    steps: &mut Steps<L>,
-) -> Result<bool, NoMemory>
-    requires names { AreNamesOf dom.now names.old }
-    ensures value { IfOk result (λ named. named ≡ is_named_late dom.now id role tag.now attrs.now) }
-    ensures names { OnOk result (AreNamesOf dom.now names.new) }
-{
-    pieces_tell();
-    if name_prohibited(role) {
-        return Ok(false);
-    }
-    let called = element_called(alloc, dom, names, id, role, tag, attrs, steps)?;
-    Ok(called.is_blank())
-}
-
-/// What is kept of what an element of a role is called, before its `title`: what its references say, else its `aria-label`, else
-/// its label by the host language, else, where the role is named from content, what its children say.
-fn element_called<L: Ledger>(
-    alloc: Global,
-    dom: &Dom,
-    names: &mut Names,
-    id: ObjId,
-    role: Role,
-    tag: &str,
-    attrs: &Attrs,
-    steps: &mut Steps<L>,
-) -> Result<Piece, NoMemory>
-    requires names { AreNamesOf dom.now names.old }
-    ensures value { IfOk result (λ p. p ≡ piece_of (called_by dom.now id role tag.now attrs.now)) }
-    ensures names { OnOk result (AreNamesOf dom.now names.new) }
-{
-    pieces_tell();
     let referred = referred_by(alloc, dom, names, attrs.text("aria-labelledby"), steps)?;
-    if !referred.is_blank() {
-        return Ok(referred);
+    let nothing = Piece::empty(alloc);
+    if is_settled(role, attrs, &referred) {
+        return element_name(alloc, role, attrs, &referred, &nothing, &nothing);
     }
-    let label = attrs.text("aria-label");
-    if !is_blank(label) {
-        return Piece::of(alloc, label);
-    }
-    let host = host_label(alloc, dom, names, id, tag, attrs, steps)?;
-    if !host.is_blank() {
-        return Ok(host);
-    }
+    let label = host_label(alloc, dom, names, id, tag, attrs, steps)?;
     if !names_from_content(role) {
-        return Ok(Piece::empty(alloc));
+        return element_name(alloc, role, attrs, &referred, &label, &nothing);
     }
-    let inside = content(alloc, dom, names, id, steps)?;
-    if inside.is_blank() {
-        Ok(Piece::empty(alloc))
-    } else {
-        Ok(inside)
-    }
+    let below = content(alloc, dom, names, id, steps)?;
+    element_name(alloc, role, attrs, &referred, &label, &below)
+}
+
+/// Whether it is settled what names an element of a role before its host language and its children are asked: it may not be
+/// named, or its references or its `aria-label` name it.
+fn is_settled(role: Role, attrs: &Attrs, referred: &Piece) -> bool
+    ensures { (r : Chars) → referred.now ≡ piece_of r → result ≡ is_settled role attrs.now r }
+{
+    pieces_tell();
+    name_prohibited(role) || !referred.is_blank() || !is_blank(attrs.text("aria-label"))
+}
+
+/// The accessible description of an element, where it is known whether its `title` names it.
+fn element_described<L: Ledger>(
+    alloc: Global,
+    dom: &Dom,
+    names: &mut Names,
+    attrs: &Attrs,
+    by_title: bool,
+    steps: &mut Steps<L>,
+) -> Result<Text, NoMemory>
+    requires names { AreNamesOf dom.now names.old }
+    ensures value { IfOk result (λ t. t ≡ described_from attrs.now (referred_by dom.now (text_in (codes "aria-describedby") attrs.now)) by_title) }
+    ensures names { OnOk result (AreNamesOf dom.now names.new) }
+{
+    let referred = referred_by(alloc, dom, names, attrs.text("aria-describedby"), steps)?;
+    element_description(alloc, attrs, referred, by_title)
 }
 
 /// What is kept of the label that the host language gives to an element.
@@ -244,12 +233,4 @@ fn labelled<L: Ledger>(
     };
     push_node(alloc, dom, names, label, &mut said, steps)?;
     Ok(said)
-}
-
-/// A text, flattened and cut.
-fn flat_and_cut(alloc: Global, text: &str) -> Result<Text, NoMemory>
-    ensures { IfOk result (λ t. t ≡ cut (flat text.now)) }
-{
-    pieces_tell();
-    Ok(Piece::of(alloc, text)?.into_name())
 }

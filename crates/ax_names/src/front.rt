@@ -146,13 +146,16 @@ impl Front {
         self.put_str(words.as_str())
     }
 
-    /// Puts the characters of a text in, as they are.
+    /// Puts the characters of a text in, as they are. It reads no further once nothing changes any more.
     fn put_str(&mut self, text: &str) -> Result<(), NoMemory>
         ensures { OnOk result (self.new ≡ followed self.old text.now) }
     {
         // Proof only: borrowing a field brings the type's invariant into scope.
         let _ = &self.count;
         for c in text.chars() {
+            if self.has_more() {
+                return Ok(());
+            }
             self.put(c)?;
         }
         Ok(())

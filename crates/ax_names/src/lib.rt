@@ -1,9 +1,10 @@
 //! Names that are flat and cut while they are made.
 #![tactic(auto)]
 
-ghost use Rattle.std.specs.Prelude.{◌≡◌, ◌++◌, List, map};
+ghost use Rattle.std.specs.Prelude.{◌≡◌, ◌++◌, List, map, true};
 ghost use Rattle.ax_base.specs.Characters.{Chars, is_blank, flat, cut, joined_by_spaces};
-ghost use Rattle.ax_names.specs.Pieces.{is_empty, piece_of, joined, flattened, all_apart, name_of, has_no_words, has_nothing};
+ghost use Rattle.ax_base.specs.Said.{spaced};
+ghost use Rattle.ax_names.specs.Pieces.{is_empty, piece_of, joined, flattened, between_spaces, all_apart, name_of, has_no_words, has_nothing};
 
 mod blocks;
 mod called;
@@ -12,6 +13,7 @@ mod embedded;
 mod front;
 mod hidden;
 mod memo;
+mod naming;
 mod order;
 mod pieces;
 mod plain;
@@ -21,12 +23,17 @@ mod said;
 mod session;
 mod shown;
 mod targets;
+mod text_alternative;
 
+pub use blocks::is_block;
 pub use calls::{description_of, name_of};
+pub use embedded::is_button_field;
 pub use hidden::is_hidden;
+pub use naming::{Named, element_description, element_name, flat_and_cut};
 pub use pieces::Piece;
 pub use said::{said_plain, said_shown, said_whole};
 pub use session::Names;
+pub use text_alternative::{said_as_child, said_by};
 
 /// What is kept of texts tells what is kept of them put together, and what name they make.
 ///
@@ -35,6 +42,7 @@ pub fn pieces_tell()
     ensures together { (a b : Chars) → piece_of (a ++ b) ≡ joined (piece_of a) (piece_of b) }
     ensures again { (t : Chars) → piece_of (flat t) ≡ flattened (piece_of t) }
     ensures apart { (ts : List Chars) → piece_of (joined_by_spaces (map flat ts)) ≡ flattened (piece_of (all_apart ts)) }
+    ensures between { (t : Chars) → piece_of (spaced true t) ≡ between_spaces (piece_of t) }
     ensures name { (t : Chars) → name_of (piece_of t) ≡ cut (flat t) }
     ensures blank { (t : Chars) → has_no_words (piece_of t) ≡ is_blank t }
     ensures empty { (t : Chars) → has_nothing (piece_of t) ≡ is_empty t }

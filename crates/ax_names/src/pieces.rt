@@ -1,6 +1,6 @@
 //! Pieces of a name.
-ghost use Rattle.std.specs.Prelude.{◌≡◌, [], IfOk, OnOk};
-ghost use Rattle.ax_names.specs.Pieces.{begins_white, ends_white, piece_of, joined, flattened, name_of, has_no_words, has_nothing};
+ghost use Rattle.std.specs.Prelude.{◌≡◌, [], true, false, IfOk, OnOk};
+ghost use Rattle.ax_names.specs.Pieces.{Phrase, begins_white, ends_white, piece_of, joined, flattened, between_spaces, name_of, has_no_words, has_nothing};
 
 use crate::front::Front;
 use ax_base::{NoMemory, Text};
@@ -8,7 +8,8 @@ use std::alloc::Global;
 use std::marker::Model;
 
 /// What is kept of a text that is joined from many, so that the name that it makes is flat and cut, and no more of it stays in
-/// memory: the first 512 characters of the flat text, whether more follow, and whether the text began and ended with white space.
+/// memory: the first 512 characters of the flat text, whether more follow, whether the text began with white space, and, where no more
+/// follow, whether it ended with it.
 ///
 /// Where a call has no memory left, the piece is of no more use.
 #[derive(Drop)]
@@ -68,7 +69,7 @@ impl Piece {
         let nothing = text.is_empty();
         self.words.put_flat(self.ends, text)?;
         self.starts = self.starts || (bare && begins);
-        self.ends = ends || (nothing && self.ends);
+        self.ends = !self.words.has_more() && (ends || (nothing && self.ends));
         Ok(())
     }
 
@@ -83,8 +84,21 @@ impl Piece {
         let more = other.words.has_more();
         self.words.note_more(more);
         self.starts = self.starts || (bare && other.starts);
-        self.ends = other.ends || (blank && self.ends);
+        self.ends = !self.words.has_more() && (other.ends || (blank && self.ends));
         Ok(())
+    }
+
+    /// Whether it stays the same whatever text is put behind it, since more follows already than it keeps. If so, how the text ended is
+    /// forgotten.
+    pub fn takes_no_more(&mut self) -> bool
+        ensures full { result ≡ true → (other : Phrase) → self.new ≡ joined self.old other }
+        ensures open { result ≡ false → self.new ≡ self.old }
+    {
+        if !self.words.has_more() || self.words.is_empty() {
+            return false;
+        }
+        self.ends = false;
+        true
     }
 
     /// Makes the text flat: the white space at its ends is gone.
@@ -93,6 +107,14 @@ impl Piece {
     {
         self.starts = false;
         self.ends = false;
+    }
+
+    /// Puts a space before the text and one after it.
+    pub fn put_between_spaces(&mut self)
+        ensures { self.new ≡ between_spaces self.old }
+    {
+        self.starts = true;
+        self.ends = !self.words.has_more();
     }
 
     /// Whether the text has nothing but white space.
@@ -107,6 +129,13 @@ impl Piece {
         ensures { result ≡ has_nothing self.now }
     {
         self.words.is_empty() && !self.starts
+    }
+
+    /// The name that the text makes.
+    pub fn name(&self, alloc: Global) -> Result<Text, NoMemory>
+        ensures { IfOk result (λ t. t ≡ name_of self.now) }
+    {
+        Text::from_str(alloc, self.words.as_str())
     }
 
     /// The name that the text makes. It takes no memory.

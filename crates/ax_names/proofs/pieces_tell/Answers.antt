@@ -1,6 +1,7 @@
 use Rattle.ax_names.proofs.Joining.{pieces_join, name_kept, blank_kept, nothing_kept}
 use Rattle.ax_names.proofs.Again.{flat_kept}
 use Rattle.ax_names.proofs.Apart.{apart_kept}
+use Rattle.ax_names.proofs.Between.{between_kept}
 use Rattle.ax_names.proofs.pieces_tell.Goals as goal
 
 pub returns-clause-together : goal.returns-clause-together
@@ -17,6 +18,9 @@ returns-clause-empty c = nothing_kept
 
 pub returns-clause-apart : goal.returns-clause-apart
 returns-clause-apart c = apart_kept
+
+pub returns-clause-between : goal.returns-clause-between
+returns-clause-between c = between_kept
 
 pub returns-clause-name : goal.returns-clause-name
 returns-clause-name c = name_kept

@@ -4,6 +4,9 @@ use Rattle.ax_base.specs.Document.{IsChild, has, depth}
 use Rattle.ax_dom.specs.declared.cell.Cell.{Cell}
 use Rattle.ax_names.specs.Pieces.{piece_of}
 use Rattle.ax_names.proofs.Speaking.{child_of, cell_is, own_cell, descends, says_nothing, says_words, says_element}
+use Rattle.ax_names.proofs.Showing.{one_more_said}
+use Rattle.ax_base.specs.Said.{child_text}
+use Rattle.ax_names.specs.OwnTexts.{hiding, said_part}
 use Rattle.ax_names.proofs.plain.+plain.Goals as goal
 
 pub plain_children-plain_child-requires : goal.plain_children-plain_child-requires
@@ -37,3 +40,8 @@ pub plain_cell-returns-in-Element : goal.plain_cell-returns-in-Element
 plain_cell-returns-in-Element g t c =
     let d = c.args.dom.now in
     IfOk-weaker c.plain_element.result _ _ (λ p e. e ∙ ap piece_of (says_element c.args.whole d c.requires.tree c.args.cell.now.id c.args.cell.now.body (ap (λ (x : Cell). x.body) c.requires.cell) c.is_silent.result c.is_silent.ensures c.if-is_silent.false c.node_role-role.result c.node_role-role.ensures c.in-Element.tag c.in-Element.attrs c.in-Element.frame c.in-Element.is _ c.as_str-in-Element.ensures)) c.plain_element.ensures
+
+pub plain_children-loop-child-preserved : goal.plain_children-loop-child-preserved
+plain_children-loop-child-preserved g t c =
+    one_more_said c.pieces_tell.ensures.together (child_text c.args.dom.now (hiding c.args.whole) (said_part c.args.whole c.args.dom.now)) c.loop-child.child-index c.child-item.result c.children-child-items.result.now c.loop-child.joined c.in_ok-said.said
+    c.append.new.self (omega arith) c.child-item.is c.loop-child.invariant c.in_ok-said.ensures c.in_ok-append.ensures
