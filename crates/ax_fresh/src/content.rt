@@ -6,7 +6,9 @@ ghost use Rattle.ax_base.specs.Roles.{role_of};
 ghost use Rattle.ax_base.specs.States.{states_by, level_by, live_by, value_by};
 ghost use Rattle.ax_base.specs.Context.{live_at};
 ghost use Rattle.ax_base.specs.Kids.{kids};
+ghost use Rattle.ax_base.specs.Rects.{HasRectsWithin};
 ghost use Rattle.ax_dom.specs.Slots.{cell_of};
+ghost use Rattle.ax_fresh.specs.Contents.{record_by};
 ghost use Rattle.ax_names.specs.Sessions.{AreNamesOf};
 ghost use Rattle.ax_record.specs.Records.{record_of, holder, chars_of, runs_of};
 
@@ -41,11 +43,39 @@ pub fn record_of<L: Ledger>(
     ensures value { IfOk result (λ r. r ≡ record_of dom.now cell.now.id) }
     ensures names { OnOk result (AreNamesOf dom.now names.new) }
 {
+    let (name, description) = names.name_and_description(alloc, dom, cell, role, steps)?;
+    let called = Called { name, description };
+    record_called(alloc, cell, role, live, parent, below, called)
+}
+
+/// What an object is called.
+#[derive(Drop)]
+pub struct Called {
+    /// The accessible name.
+    pub name: Text,
+    /// The accessible description.
+    pub description: Text,
+}
+
+/// The record of an object that is called so, with what hangs on it.
+pub fn record_called(
+    alloc: Global,
+    cell: &Cell,
+    role: Role,
+    live: Live,
+    parent: Option<ObjId>,
+    below: Ids,
+    called: Called,
+) -> Result<Record, NoMemory>
+    requires { HasRectsWithin cell.now.body }
+    ensures { IfOk result (λ r. r ≡ record_by cell.now role live parent below called.name called.description) }
+{
+    let Called { name, description } = called;
     Ok(Record {
         id: cell.id,
         role,
-        name: names.name_of(alloc, dom, cell, role, steps)?,
-        description: names.description_of(alloc, dom, cell, role, steps)?,
+        name,
+        description,
         value: value_of(alloc, role, &cell.body)?,
         states: states_of(role, &cell.body),
         level: level_of(role, &cell.body),

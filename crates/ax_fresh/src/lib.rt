@@ -7,6 +7,6 @@ mod frames;
 mod uncounted;
 mod walk;
 
-pub use content::record_of;
+pub use content::{Called, record_called, record_of};
 pub use uncounted::tree_of;
 pub use walk::build;
