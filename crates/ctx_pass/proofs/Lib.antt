@@ -1,3 +1,5 @@
+pub mod Marking
+pub mod Picking
 pub mod Passing
 pub mod Putting
 pub mod Inheriting

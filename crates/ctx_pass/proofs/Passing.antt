@@ -1,18 +1,19 @@
 -- What a renewal takes, from above or from below, whatever is kept.
-use Rattle.std.proofs.Common.{◌≡◌, inl, inr, ℕ, zero, suc, ◌+◌, ◌*◌, ◌≤◌, ◌<◌, List, [], ◌∷◌, ◌++◌, length, take, get_or, Bool, true, false, cond, Option, Contains, refl, sym, ap, subst, ◌∙◌, arith, append_assoc, append-nil}
+use Rattle.std.proofs.Common.{◌≡◌, inl, inr, ℕ, zero, suc, ◌+◌, ◌*◌, ◌≤◌, ◌<◌, List, [], ◌∷◌, ◌++◌, length, take, filter, get_or, Bool, true, false, cond, Option, Contains, refl, sym, ap, subst, ◌∙◌, arith, append_assoc, append-nil}
 use Rattle.std.specs.Prelude.{sum_by}
 use Rattle.std.specs.List.{flat_map}
 use Rattle.std.proofs.lemmas.Bool.{false≢true}
 use Rattle.std.proofs.lemmas.List.{take_all, take_more}
 use Rattle.std.proofs.lemmas.List.Elements.{Contains-append_cases}
 use Rattle.std.proofs.lemmas.List.Sums.{sum_by-append}
-use Rattle.ax_base.specs.Document.{Document, has, root, children}
+use Rattle.ax_base.specs.Document.{Document, has, root, children, IsChild}
 use Rattle.ax_base.specs.Trees.{IsTree}
 use Rattle.ax_dom.specs.Subtrees.{subtree}
 use Rattle.ax_dom.proofs.Copied.{in_order}
 use Rattle.ax_dom.proofs.Subtrees.{subtree_unfolds, subtree_cases, within_parent}
 use Rattle.ax_dom.proofs.Without.{joined_keeps}
 use Rattle.ctx_pass.specs.Passes.{holds, HoldsUp, one_of, count}
+use Rattle.ctx_pass.proofs.Picking.{picked_in, picked_cases}
 
 flat_map_more : (f : ℕ → List ℕ) (xs : List ℕ) (x : ℕ) → flat_map f (xs ++ x ∷ []) ≡ flat_map f xs ++ f x
 flat_map_more f [] x = append-nil (f x)
@@ -70,6 +71,18 @@ count_front s f (c ∷ cs) (suc i) =
     let b = sum_by-append (one_of s) (f c) (flat_map f (take i cs)) in
     omega arith
 
+-- what is counted for some of the parts is no more than what is counted for all
+count_some : (s : Option (List ℕ)) (f : ℕ → List ℕ) (p : ℕ → Bool) (cs : List ℕ) → count s (flat_map f (filter p cs)) ≤ count s (flat_map f cs)
+count_some s f p [] = omega arith
+count_some s f p (c ∷ cs) = go (p c) (count_some s f p cs)
+  where
+    go : (b : Bool) → count s (flat_map f (filter p cs)) ≤ count s (flat_map f cs) → count s (flat_map f (cond b (c ∷ filter p cs) (filter p cs))) ≤ count s (flat_map f (c ∷ cs))
+    go true rest =
+        let a = sum_by-append (one_of s) (f c) (flat_map f cs) in
+        let b = sum_by-append (one_of s) (f c) (flat_map f (filter p cs)) in
+        omega arith
+    go false rest = let a = sum_by-append (one_of s) (f c) (flat_map f cs) in omega arith
+
 single : (f : ℕ → ℕ) (n : ℕ) → sum_by f (n ∷ []) ≡ f n
 single f n = omega arith
 
@@ -86,30 +99,31 @@ module _ (d : Document) (t : IsTree d) (s : Option (List ℕ)) where
   pub within_begun : (n entry steps : ℕ) → holds s n ≡ true → steps ≤ entry + 2 → steps ≤ entry + 2 * count s (subtree d n)
   within_begun n entry steps on two = let a = count_at n on in omega arith
 
+  some_within : (n : ℕ) (cs : List ℕ) → cs ≡ filter (holds s) (children d n) → count s (flat_map (subtree d) cs) ≤ count s (flat_map (subtree d) (children d n))
+  some_within n cs same = subst (λ l. count s (flat_map (subtree d) l) ≤ count s (flat_map (subtree d) (children d n))) (sym same) (count_some s (subtree d) (holds s) (children d n))
+
+  -- a child that is to be renewed
+  pub child_among : (n k x : ℕ) (cs : List ℕ) → cs ≡ filter (holds s) (children d n) → k < length cs → x ≡ get_or cs k x → IsChild d n x × (holds s x ≡ true)
+  child_among n k x cs same low is = picked_cases (holds s) (children d n) x (subst (λ ys. Contains ys x) same (k, low, sym is))
+
   -- so are these and the reads for some children and for a part of the next
-  pub within_early : (n : ℕ) (cs : List ℕ) (Was Is : ℕ → Type 0) (entry first steps last i x : ℕ) → holds s n ≡ true → cs ≡ children d n → i < length cs → x ≡ get_or cs i x
+  pub within_early : (n : ℕ) (cs : List ℕ) (Was Is : ℕ → Type 0) (entry first steps last i x : ℕ) → holds s n ≡ true → cs ≡ filter (holds s) (children d n) → i < length cs → x ≡ get_or cs i x
       → SoFar d s Was Is first steps i cs → first ≡ entry + 2 → last ≤ steps + 2 * count s (subtree d x) → last ≤ entry + 2 * count s (subtree d n)
   within_early n cs Was Is entry first steps last i x on same low is far two within =
       let part = count_part s (subtree d) cs i x low is in
-      let whole = count_at n on ∙ (λ k. 1 + count s (flat_map (subtree d) (sym same k))) in
+      let whole = count_at n on in
+      let some : count s (flat_map (subtree d) cs) ≤ count s (flat_map (subtree d) (children d n)) = some_within n cs same in
       let before = far.counted in
       omega arith
 
-  pub within_late : (n : ℕ) (cs : List ℕ) (Was Is : ℕ → Type 0) (entry first steps i : ℕ) → holds s n ≡ true → cs ≡ children d n
+  pub within_late : (n : ℕ) (cs : List ℕ) (Was Is : ℕ → Type 0) (entry first steps i : ℕ) → holds s n ≡ true → cs ≡ filter (holds s) (children d n)
       → SoFar d s Was Is first steps i cs → first ≡ entry + 2 → steps ≤ entry + 2 * count s (subtree d n)
   within_late n cs Was Is entry first steps i on same far two =
-      let whole = count_at n on ∙ (λ k. 1 + count s (flat_map (subtree d) (sym same k))) in
+      let whole = count_at n on in
+      let some : count s (flat_map (subtree d) cs) ≤ count s (flat_map (subtree d) (children d n)) = some_within n cs same in
       let front = count_front s (subtree d) cs i in
       let before = far.counted in
       omega arith
-
-  -- each node at or below n is right: n itself, and those below it by the loop
-  pub all_within : (n : ℕ) (cs : List ℕ) (Was Is Next : ℕ → Type 0) (first steps i : ℕ) → cs ≡ children d n → length cs ≤ i → SoFar d s Was Is first steps i cs → ((q : ℕ) → Is q → Next q) → Next n
-      → (q : ℕ) → Contains (subtree d n) q → holds s q ≡ true → Next q
-  all_within n cs Was Is Next first steps i same past far still here q inside on = elim (subtree_cases d t n q inside) [
-    | inl is ↦ subst Next is here
-    | inr (k, child, below) ↦ still q (far.done q (subst (λ l. Contains (flat_map (subtree d) l) q) (sym (take_all i cs past ∙ same)) (joined_keeps (subtree d) (children d n) k q child below)) on)
-  ]
 
   -- what is closed upwards has nothing below a node that it lacks
   up_within : HoldsUp d s → (l n q : ℕ) → t.level q ≤ l → Contains (subtree d n) q → holds s q ≡ true → holds s n ≡ true
@@ -122,6 +136,17 @@ module _ (d : Document) (t : IsTree d) (s : Option (List ℕ)) where
     | inr (p, child, up) ↦ (let e = t.deeper p q child in up_within closed l n p (omega arith) up (closed p q child on))
   ]
 
+  -- each node at or below n that is to be renewed is right: n itself, and those below it by the loop
+  pub all_within : HoldsUp d s → (n : ℕ) (cs : List ℕ) (Was Is Next : ℕ → Type 0) (first steps i : ℕ) → cs ≡ filter (holds s) (children d n) → length cs ≤ i → SoFar d s Was Is first steps i cs → ((q : ℕ) → Is q → Next q) → Next n
+      → (q : ℕ) → Contains (subtree d n) q → holds s q ≡ true → Next q
+  all_within closed n cs Was Is Next first steps i same past far still here q inside on = elim (subtree_cases d t n q inside) [
+    | inl is ↦ subst Next is here
+    | inr (k, child, below) ↦ still q (far.done q (subst (λ l. Contains (flat_map (subtree d) l) q) (sym (take_all i cs past)) (joined_keeps (subtree d) cs k q (there k child below) below)) on)
+  ]
+    where
+      there : (k : ℕ) → IsChild d n k → Contains (subtree d k) q → Contains cs k
+      there k child below = subst (λ l. Contains l k) (sym same) (picked_in (holds s) (children d n) k child (up_within closed (t.level q) k q (omega arith) below on))
+
   pub none_within : HoldsUp d s → (n : ℕ) (Is : ℕ → Type 0) → holds s n ≡ false → (q : ℕ) → Contains (subtree d n) q → holds s q ≡ true → Is q
   none_within closed n Is off q inside on = absurd (false≢true (sym off ∙ up_within closed (t.level q) n q (omega arith) inside on))
 
@@ -133,3 +158,11 @@ module _ (d : Document) (t : IsTree d) (s : Option (List ℕ)) where
       go : (b : Bool) → holds s n ≡ b → Is n
       go true on = done n (in_order d t (t.level n) n (omega arith) there) on
       go false off = stays n (others n there off)
+
+  -- where the root is not renewed, none is
+  pub none_right : HoldsUp d s → (Was : ℕ → Type 0) → ((n : ℕ) → has d n ≡ true → holds s n ≡ false → Was n) → holds s root ≡ false → (n : ℕ) → has d n ≡ true → Was n
+  none_right closed Was others off n there = go (holds s n) refl
+    where
+      go : (b : Bool) → holds s n ≡ b → Was n
+      go true on = none_within closed root Was off n (in_order d t (t.level n) n (omega arith) there) on
+      go false out = others n there out

@@ -1,5 +1,6 @@
 -- What nodes take over from the nodes above them, as it is kept.
-use Rattle.std.specs.Prelude.{◌≡◌, ℕ, true, false, ◌||◌, List, Option, Some, unwrap_or}
+use Rattle.std.specs.Prelude.{◌≡◌, ℕ, Bool, true, false, ◌||◌, List, Option, Some, unwrap_or}
+use Rattle.std.specs.Option.{option_map_or}
 use Rattle.std.specs.Ordering.{nat_cmp}
 use Rattle.std.specs.Map.{lookup}
 use Rattle.std.specs.BTreeMap.{is_at}
@@ -9,6 +10,7 @@ use Rattle.ax_base.specs.Context.{is_hidden, is_pruned, live_at}
 use Rattle.ax_base.specs.Roles.{hides, prunes}
 use Rattle.ax_base.specs.States.{sets_live}
 use Rattle.ctx_pass.specs.declared.contexts.Context.{Context}
+use Rattle.ctx_pass.specs.Passes.{is_marked}
 
 -- the context of a node: whether it is hidden, whether it is pruned, and its live
 abbrev pub context_of : Document → ℕ → Context
@@ -37,3 +39,11 @@ inherited above s = record { hidden = hides s || above.hidden; pruned = above.pr
 -- what the children of a node take over, from its context
 abbrev pub passed_on : Context → Spot → Context
 passed_on here s = record { hidden = here.hidden; pruned = prunes s || here.pruned; live = here.live }
+
+-- whether a node with this context is out of the tree
+abbrev pub puts_out : Context → Bool
+puts_out c = c.hidden || c.pruned
+
+-- a node without a mark is not out by what is kept of it
+abbrev pub OnlyMarkedAreOut : List ℕ → List (ℕ × Context) → Type 0
+OnlyMarkedAreOut marks kept = (n : ℕ) → is_marked marks n ≡ false → option_map_or puts_out (context_at kept n) false ≡ false

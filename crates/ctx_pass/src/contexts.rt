@@ -1,16 +1,17 @@
 //! The contexts of the nodes of a document.
-ghost use Rattle.std.specs.Prelude.{◌≡◌, ◌≤◌, ◌+◌, ◌*◌, ◌||◌, ℕ, true, false, OnOk, IfOk, IfSome, Some, None, option_copied};
+ghost use Rattle.std.specs.Prelude.{◌≡◌, ◌≤◌, ◌+◌, ◌*◌, ◌||◌, ℕ, true, false, OnOk, IfOk, Some, None};
 ghost use Rattle.std.specs.List.Sorted.{IsStrictlyIncreasing};
-ghost use Rattle.std.specs.Ordering.{nat_cmp};
-ghost use Rattle.std.specs.BTreeMap.{insert_entry};
 ghost use Rattle.ax_base.specs.Document.{Document, has, order};
 ghost use Rattle.ax_base.specs.Trees.{IsTree};
+ghost use Rattle.ax_base.specs.Context.{is_out};
 ghost use Rattle.ax_dom.specs.Among.{is_in, IsClosedUp};
 ghost use Rattle.ctx_pass.specs.Contexts.{context_of, IsContextKept, AreContextsOf};
 ghost use Rattle.ctx_pass.specs.Passes.{holds, count, HoldsUp};
 
-use crate::renewing::{OUTSIDE, renew_within};
-use ax_base::{IdMap, Ids, Live, NoMemory, ObjId, Steps};
+use crate::among::{Renewed, mark_all, unmark_all};
+use crate::kept::KeptContexts;
+use crate::renewing::{OUTSIDE, renew_node};
+use ax_base::{IdSet, Ids, Live, NoMemory, ObjId, Steps};
 use ax_dom::Dom;
 use std::alloc::Global;
 use std::marker::Model;
@@ -39,7 +40,9 @@ impl Context {
 /// The contexts of the nodes of a document, by their ids. Those of nodes that are gone may be among them.
 #[derive(Drop)]
 pub struct Contexts {
-    kept: IdMap<Context>,
+    alloc: Global,
+    kept: KeptContexts,
+    marks: IdSet,
 }
 
 impl Model for Contexts {
@@ -62,11 +65,10 @@ impl Contexts {
         ensures counted { steps.new ≤ steps.old + 2 * count None (order dom.now) }
     {
         dom.keeps_tree();
-        let mut contexts = Contexts {
-            kept: IdMap::new(alloc),
-        };
-        contexts.renew_all(dom, None, steps)?;
-        Ok(contexts)
+        let mut kept = KeptContexts::new(alloc);
+        let marks = IdSet::new(alloc);
+        renew_all(alloc, dom, &Renewed::all(&marks), &mut kept, steps)?;
+        Ok(Contexts { alloc, kept, marks })
     }
 
     /// The contexts of a document, where those of all nodes outside of `reach` are kept already. It reads each node of
@@ -84,43 +86,50 @@ impl Contexts {
         ensures counted { steps.new ≤ steps.old + 2 * count (Some reach.now) (order dom.now) }
     {
         dom.keeps_tree();
-        let mut contexts = self;
-        contexts.renew_all(dom, Some(reach), steps)?;
-        Ok(contexts)
+        let Contexts {
+            alloc,
+            mut kept,
+            mut marks,
+        } = self;
+        mark_all(&mut marks, reach.as_slice())?;
+        renew_all(alloc, dom, &Renewed::only(reach, &marks), &mut kept, steps)?;
+        unmark_all(&mut marks, reach.as_slice());
+        Ok(Contexts { alloc, kept, marks })
     }
 
     /// The context of a node of the document.
     pub fn context(&self, id: ObjId) -> Context
         ensures { (d : Document) → AreContextsOf d self.now → has d id ≡ true → result ≡ context_of d id }
     {
-        match self.kept.get(id) {
-            Some(context) => *context,
-            None => OUTSIDE,
-        }
+        self.kept.context(id)
     }
 
-    /// Renews the contexts of some nodes, or of all.
-    fn renew_all<L: Ledger>(
-        &mut self,
-        dom: &Dom,
-        reach: Option<&Ids>,
-        steps: &mut Steps<L>,
-    ) -> Result<(), NoMemory>
-        requires tree { IsTree dom.now }
-        requires rising { IfSome (option_copied reach) (λ ids. IsStrictlyIncreasing ids) }
-        requires closed { HoldsUp dom.now (option_copied reach) }
-        requires others { (n : ℕ) → has dom.now n ≡ true → holds (option_copied reach) n ≡ false → IsContextKept dom.now self.old n }
-        ensures value { OnOk result (AreContextsOf dom.now self.new) }
-        ensures counted { steps.new ≤ steps.old + 2 * count (option_copied reach.entry) (order dom.now) }
+    /// Whether a node of the document is out of the tree with all that is below it.
+    pub fn is_out(&self, id: ObjId) -> bool
+        ensures { (d : Document) → AreContextsOf d self.now → has d id ≡ true → result ≡ is_out d id }
     {
-        renew_within(dom, reach, self, ObjId(1), OUTSIDE, steps)?;
-        Ok(())
+        self.kept.is_out(id)
     }
+}
 
-    /// Keeps the context of a node.
-    pub(crate) fn keep(&mut self, id: ObjId, context: Context) -> Result<(), NoMemory>
-        ensures { OnOk result (self.new ≡ insert_entry nat_cmp self.old id context) }
-    {
-        self.kept.put(id, context)
+/// Renews the contexts of some nodes, or of all.
+fn renew_all<L: Ledger>(
+    alloc: Global,
+    dom: &Dom,
+    reach: &Renewed,
+    kept: &mut KeptContexts,
+    steps: &mut Steps<L>,
+) -> Result<(), NoMemory>
+    requires tree { IsTree dom.now }
+    requires closed { HoldsUp dom.now reach.now }
+    requires others { (n : ℕ) → has dom.now n ≡ true → holds reach.now n ≡ false → IsContextKept dom.now kept.old n }
+    ensures value { OnOk result (AreContextsOf dom.now kept.new) }
+    ensures counted { steps.new ≤ steps.old + 2 * count reach.now (order dom.now) }
+{
+    let root = ObjId(1);
+    if !reach.has(root) {
+        return Ok(());
     }
+    renew_node(alloc, dom, reach, kept, root, OUTSIDE, steps)?;
+    Ok(())
 }

@@ -3,7 +3,8 @@
 
 mod among;
 mod contexts;
+mod kept;
 mod renewing;
 
-pub use among::is_renewed;
+pub use among::{Renewed, is_renewed, mark_all, unmark_all};
 pub use contexts::{Context, Contexts};

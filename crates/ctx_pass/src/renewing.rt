@@ -1,6 +1,5 @@
 //! A renewal of contexts, from above.
-ghost use Rattle.std.specs.Prelude.{◌≡◌, ◌≤◌, ◌+◌, ◌*◌, ℕ, true, OnOk, IfSome, Contains, option_copied};
-ghost use Rattle.std.specs.List.Sorted.{IsStrictlyIncreasing};
+ghost use Rattle.std.specs.Prelude.{◌≡◌, ◌≤◌, ◌+◌, ◌*◌, ℕ, true, OnOk, Contains};
 ghost use Rattle.ax_base.specs.Document.{has, spot};
 ghost use Rattle.ax_base.specs.Roles.{role_of};
 ghost use Rattle.ax_base.specs.States.{live_by};
@@ -9,12 +8,14 @@ ghost use Rattle.ax_dom.specs.Subtrees.{subtree};
 ghost use Rattle.ctx_pass.specs.Contexts.{context_of, inherited, passed_on, IsContextKept};
 ghost use Rattle.ctx_pass.specs.Passes.{holds, count, HoldsUp};
 
-use crate::among::is_renewed;
-use crate::contexts::{Context, Contexts};
-use ax_base::{Body, Ids, Live, NoMemory, ObjId, Role, Steps};
+use crate::among::Renewed;
+use crate::contexts::Context;
+use crate::kept::KeptContexts;
+use ax_base::{Body, Live, NoMemory, ObjId, Role, Steps};
 use ax_dom::Dom;
 use ax_roles::{node_hides, node_role, prunes};
 use ax_states::live_set_by;
+use std::alloc::Global;
 use std::sync::ledger::Ledger;
 
 /// What the root takes over.
@@ -31,55 +32,32 @@ struct Standing {
     below: Context,
 }
 
-/// Renews the context of a node that takes over `above`, if it is to be renewed, and of those below it.
+/// Renews the context of a node that takes over `above`, and of those below it that are to be renewed. Of each node it
+/// goes on only to the children that are to be renewed.
 #[cycle(renewal)]
-pub(crate) fn renew_within<L: Ledger>(
+pub(crate) fn renew_node<L: Ledger>(
+    alloc: Global,
     dom: &Dom,
-    reach: Option<&Ids>,
-    contexts: &mut Contexts,
+    reach: &Renewed,
+    contexts: &mut KeptContexts,
     id: ObjId,
     above: Context,
     steps: &mut Steps<L>,
 ) -> Result<(), NoMemory>
     requires tree { IsTree dom.now }
-    requires rising { IfSome (option_copied reach) (λ ids. IsStrictlyIncreasing ids) }
-    requires closed { HoldsUp dom.now (option_copied reach) }
+    requires closed { HoldsUp dom.now reach.now }
     requires known { has dom.now id ≡ true }
     requires above { context_of dom.now id ≡ inherited above (spot dom.now id) }
+    requires member { holds reach.now id ≡ true }
     ensures stays { OnOk result ((n : ℕ) → IsContextKept dom.now contexts.old n → IsContextKept dom.now contexts.new n) }
-    ensures done { OnOk result ((n : ℕ) → Contains (subtree dom.now id) n → holds (option_copied reach.entry) n ≡ true → IsContextKept dom.now contexts.new n) }
-    ensures counted { steps.new ≤ steps.old + 2 * count (option_copied reach.entry) (subtree dom.now id) }
-{
-    if is_renewed(reach, id) {
-        return renew_node(dom, reach, contexts, id, above, steps);
-    }
-    Ok(())
-}
-
-/// Renews the context of a node that takes over `above`, and of those below it.
-#[cycle(renewal)]
-fn renew_node<L: Ledger>(
-    dom: &Dom,
-    reach: Option<&Ids>,
-    contexts: &mut Contexts,
-    id: ObjId,
-    above: Context,
-    steps: &mut Steps<L>,
-) -> Result<(), NoMemory>
-    requires tree { IsTree dom.now }
-    requires rising { IfSome (option_copied reach) (λ ids. IsStrictlyIncreasing ids) }
-    requires closed { HoldsUp dom.now (option_copied reach) }
-    requires known { has dom.now id ≡ true }
-    requires above { context_of dom.now id ≡ inherited above (spot dom.now id) }
-    requires member { holds (option_copied reach) id ≡ true }
-    ensures stays { OnOk result ((n : ℕ) → IsContextKept dom.now contexts.old n → IsContextKept dom.now contexts.new n) }
-    ensures done { OnOk result ((n : ℕ) → Contains (subtree dom.now id) n → holds (option_copied reach.entry) n ≡ true → IsContextKept dom.now contexts.new n) }
-    ensures counted { steps.new ≤ steps.old + 2 * count (option_copied reach.entry) (subtree dom.now id) }
+    ensures done { OnOk result ((n : ℕ) → Contains (subtree dom.now id) n → holds reach.now n ≡ true → IsContextKept dom.now contexts.new n) }
+    ensures counted { steps.new ≤ steps.old + 2 * count reach.now (subtree dom.now id) }
 {
     let standing = look(dom, id, above, steps);
     contexts.keep(id, standing.here)?;
-    for child in dom.children(id, steps) {
-        renew_within(dom, reach, contexts, *child, standing.below, steps)?;
+    let below = reach.among(alloc, dom.children(id, steps))?;
+    for child in below.as_slice() {
+        renew_node(alloc, dom, reach, contexts, *child, standing.below, steps)?;
     }
     Ok(())
 }

@@ -2,6 +2,7 @@
 #![tactic(auto)]
 
 mod children;
+mod kept;
 mod renewing;
 
 pub use children::Kids;

@@ -1,6 +1,5 @@
 //! A renewal of kids, from below.
-ghost use Rattle.std.specs.Prelude.{◌≡◌, ◌≤◌, ◌+◌, ◌*◌, ℕ, true, false, OnOk, IfSome, Contains, option_copied};
-ghost use Rattle.std.specs.List.Sorted.{IsStrictlyIncreasing};
+ghost use Rattle.std.specs.Prelude.{◌≡◌, ◌≤◌, ◌+◌, ◌*◌, ℕ, true, false, OnOk, Contains};
 ghost use Rattle.ax_base.specs.Document.{has, spot};
 ghost use Rattle.ax_base.specs.Roles.{ignored};
 ghost use Rattle.ax_base.specs.Trees.{IsTree};
@@ -9,70 +8,44 @@ ghost use Rattle.ctx_pass.specs.Contexts.{AreContextsOf};
 ghost use Rattle.ctx_pass.specs.Passes.{holds, count, HoldsUp};
 ghost use Rattle.kids_pass.specs.Kids.{IsKidsKept};
 
-use crate::children::{Kids, NodeKids};
-use ax_base::{Ids, NoMemory, ObjId, Steps};
+use crate::children::NodeKids;
+use crate::kept::KeptKids;
+use ax_base::{NoMemory, ObjId, Steps};
 use ax_dom::Dom;
 use ax_roles::{node_is_ignored, node_role};
-use ctx_pass::{Contexts, is_renewed};
+use ctx_pass::{Contexts, Renewed};
 use std::alloc::Global;
 use std::sync::ledger::Ledger;
 
-/// Renews the kids of a node, if it is to be renewed, and of those below it.
+/// Renews the kids of a node, and of those below it that are to be renewed. First it goes on to the children that are to be
+/// renewed, and then it gathers what all children give.
 #[cycle(renewal)]
-pub(crate) fn renew_within<L: Ledger>(
+pub(crate) fn renew_node<L: Ledger>(
     alloc: Global,
     dom: &Dom,
     contexts: &Contexts,
-    reach: Option<&Ids>,
-    kids: &mut Kids,
+    reach: &Renewed,
+    kids: &mut KeptKids,
     id: ObjId,
     steps: &mut Steps<L>,
 ) -> Result<(), NoMemory>
     requires tree { IsTree dom.now }
     requires contexts { AreContextsOf dom.now contexts.now }
-    requires rising { IfSome (option_copied reach) (λ ids. IsStrictlyIncreasing ids) }
-    requires closed { HoldsUp dom.now (option_copied reach) }
-    requires others { (n : ℕ) → has dom.now n ≡ true → holds (option_copied reach) n ≡ false → IsKidsKept dom.now kids.old n }
+    requires closed { HoldsUp dom.now reach.now }
+    requires others { (n : ℕ) → has dom.now n ≡ true → holds reach.now n ≡ false → IsKidsKept dom.now kids.old n }
     requires known { has dom.now id ≡ true }
+    requires member { holds reach.now id ≡ true }
     ensures stays { OnOk result ((n : ℕ) → IsKidsKept dom.now kids.old n → IsKidsKept dom.now kids.new n) }
-    ensures done { OnOk result ((n : ℕ) → Contains (subtree dom.now id) n → holds (option_copied reach.entry) n ≡ true → IsKidsKept dom.now kids.new n) }
-    ensures right { OnOk result (IsKidsKept dom.now kids.new id) }
-    ensures counted { steps.new ≤ steps.old + 2 * count (option_copied reach.entry) (subtree dom.now id) }
-{
-    if is_renewed(reach, id) {
-        return renew_node(alloc, dom, contexts, reach, kids, id, steps);
-    }
-    Ok(())
-}
-
-/// Renews the kids of a node, and of those below it.
-#[cycle(renewal)]
-fn renew_node<L: Ledger>(
-    alloc: Global,
-    dom: &Dom,
-    contexts: &Contexts,
-    reach: Option<&Ids>,
-    kids: &mut Kids,
-    id: ObjId,
-    steps: &mut Steps<L>,
-) -> Result<(), NoMemory>
-    requires tree { IsTree dom.now }
-    requires contexts { AreContextsOf dom.now contexts.now }
-    requires rising { IfSome (option_copied reach) (λ ids. IsStrictlyIncreasing ids) }
-    requires closed { HoldsUp dom.now (option_copied reach) }
-    requires others { (n : ℕ) → has dom.now n ≡ true → holds (option_copied reach) n ≡ false → IsKidsKept dom.now kids.old n }
-    requires known { has dom.now id ≡ true }
-    requires member { holds (option_copied reach) id ≡ true }
-    ensures stays { OnOk result ((n : ℕ) → IsKidsKept dom.now kids.old n → IsKidsKept dom.now kids.new n) }
-    ensures done { OnOk result ((n : ℕ) → Contains (subtree dom.now id) n → holds (option_copied reach.entry) n ≡ true → IsKidsKept dom.now kids.new n) }
-    ensures counted { steps.new ≤ steps.old + 2 * count (option_copied reach.entry) (subtree dom.now id) }
+    ensures done { OnOk result ((n : ℕ) → Contains (subtree dom.now id) n → holds reach.now n ≡ true → IsKidsKept dom.now kids.new n) }
+    ensures counted { steps.new ≤ steps.old + 2 * count reach.now (subtree dom.now id) }
 {
     let ignored = is_ignored(dom, id, steps);
-    let mut list = Ids::new(alloc);
-    for child in dom.children(id, steps) {
-        renew_within(alloc, dom, contexts, reach, kids, *child, steps)?;
-        kids.add_taken(contexts, *child, &mut list)?;
+    let children = dom.children(id, steps);
+    let below = reach.among(alloc, children)?;
+    for child in below.as_slice() {
+        renew_node(alloc, dom, contexts, reach, kids, *child, steps)?;
     }
+    let list = kids.gathered(alloc, contexts, children)?;
     let kept = NodeKids {
         ignored,
         kids: list,

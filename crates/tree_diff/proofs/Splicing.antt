@@ -1,8 +1,10 @@
 -- A list in three parts, of which the outer two stand in another list too.
 use Rattle.std.proofs.Common.{◌≡◌, inl, inr, ℕ, ◌+◌, ◌-◌, ◌≤◌, ◌<◌, List, ◌++◌, length, take, drop, get_or, Bool, true, false, not, eqb, Contains, refl, sym, ap, subst, ◌∙◌, arith}
+use Rattle.std.specs.Prelude.{nat_eq}
+use Rattle.std.specs.Cmp.Lexicographic.{pointwise, same_text}
 use Rattle.std.proofs.lemmas.Bool.{false≢true, eqb-true}
 use Rattle.std.proofs.lemmas.List.{take-append-drop, drop-drop, drop_more}
-use Rattle.std.proofs.lemmas.List.Elements.{Contains-append_left, Contains-get_or}
+use Rattle.std.proofs.lemmas.List.Elements.{Contains-append_left, Contains-append_right, Contains-get_or}
 use Rattle.ax_base.proofs.Joins.{Contains-cases}
 use Rattle.tree_diff.specs.Splices.{AreSharedBut}
 
@@ -25,6 +27,18 @@ shared_but start end ids others same order within after = record {
   before = λ n inside. from_start start others n (subst (λ l. Contains l n) same inside);
   after = after;
 }
+
+-- all elements of a list are in one that is the same
+pub all_shared : (ids others : List ℕ) (all : ℕ) → all ≡ length ids → pointwise nat_eq ids others ≡ true → AreSharedBut all all ids others
+all_shared ids others all is found = record {
+  order = omega arith;
+  within = omega arith;
+  before = λ n inside. subst (λ l. Contains l n) same (from_start all ids n inside);
+  after = λ n inside. subst (λ l. Contains l n) same (subst (λ l. Contains l n) (take-append-drop all ids) (Contains-append_right (take all ids) (drop all ids) n inside));
+}
+  where
+    same : ids ≡ others
+    same = same_text ids others (sym found)
 
 not_apart : (x y : ℕ) → false ≡ not (eqb x y) → x ≡ y
 not_apart x y found = go (eqb x y) refl found

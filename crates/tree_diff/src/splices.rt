@@ -1,17 +1,29 @@
 //! Where two lists of ids differ.
-ghost use Rattle.std.specs.Prelude.{◌≡◌, ◌≤◌, ℕ, length, take, drop, Contains};
+ghost use Rattle.std.specs.Prelude.{◌≡◌, ◌≤◌, ℕ, nat_eq, length, take, drop, Contains};
+ghost use Rattle.std.specs.Cmp.Lexicographic.{pointwise};
 ghost use Rattle.tree_diff.specs.Splices.{AreSharedBut};
 
 use ax_base::ObjId;
 
 /// Where a list differs from another: the elements before the first place, and those from the second place on, are in the
-/// other list too. It compares the two from both ends, and each element with one other at most.
+/// other list too. Where the two are the same, one comparison of the whole tells. Else it compares them from both ends.
 pub(crate) fn differing(ids: &[ObjId], others: &[ObjId]) -> (usize, usize)
     ensures { AreSharedBut result.0 result.1 ids.now others.now }
 {
+    let all = ids.len();
+    if are_same(ids, others) {
+        return (all, all);
+    }
     let start = same_start(ids, others);
     let end = same_end(ids, others, start);
     (start, end)
+}
+
+/// Whether two lists are the same.
+fn are_same(ids: &[ObjId], others: &[ObjId]) -> bool
+    ensures { result ≡ pointwise nat_eq ids.now others.now }
+{
+    ids == others
 }
 
 /// How far two lists are the same from their start on.
