@@ -1,0 +1,6 @@
+pub mod Passing
+pub mod Gathering
+pub mod Speaking
+pub mod Referring
+mod Calling
+pub mod Same

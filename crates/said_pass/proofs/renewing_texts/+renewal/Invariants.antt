@@ -1,0 +1,15 @@
+use Rattle.std.proofs.Common.{◌+◌, ◌-◌, ◌*◌}
+use Rattle.std.specs.Prelude.{option_copied}
+use Rattle.ax_base.specs.Document.{depth}
+use Rattle.said_pass.specs.Saids.{IsTextKept}
+use Rattle.said_pass.proofs.Gathering.{TextsSoFar}
+use Rattle.said_pass.proofs.renewing_texts.+renewal.Given as goal
+
+abbrev pub decreases-renew_node : goal.decreases-renew_node
+decreases-renew_node g l = 2 * (65 - depth l.dom.now l.id)
+
+abbrev pub decreases-renew_within : goal.decreases-renew_within
+decreases-renew_within g l = 2 * (65 - depth l.dom.now l.id) + 1
+
+abbrev pub invariant-renew_node-loop-child : goal.invariant-renew_node-loop-child
+invariant-renew_node-loop-child g l = TextsSoFar l.dom (option_copied l.reach) (IsTextKept l.dom l.initial.texts) (IsTextKept l.dom l.texts) l.inside l.initial.steps l.steps l.child-index l.child-items
