@@ -1,10 +1,10 @@
-//! A document that is edited and flushed in turn, each time with what is kept beside it lost and not.
+//! A document that is edited and flushed in turn.
 ghost use Rattle.std.specs.Prelude.{◌≡◌, IfOk};
 ghost use Rattle.ax_dom.specs.Bounds.{EditKeepsBounds};
 
 use ax_base::{Attrs, NoMemory, ObjId, Steps, Text};
 use ax_dom::{Dom, Edit};
-use marked_dom::MarkedDom;
+use marked_dom::{MarkedDom, UnmarkedDom};
 use std::alloc::Global;
 use std::marker::Brand;
 use std::process::Abort;
@@ -14,7 +14,7 @@ use std::test::Fail;
 #[test]
 fn edits_and_flushes_take_turns(rt: HostRuntime) -> Result<(), Fail> {
     let alloc = rt.alloc();
-    let dom = MarkedDom::new(alloc, Dom::new(alloc)?);
+    let dom = UnmarkedDom::new(alloc, Dom::new(alloc)?)?;
     take_turns::<Brand>(&rt, alloc, dom, Blank::new(1))
 }
 
@@ -22,7 +22,7 @@ fn edits_and_flushes_take_turns(rt: HostRuntime) -> Result<(), Fail> {
 fn take_turns<L: Ledger>(
     rt: &impl Abort,
     alloc: Global,
-    dom: MarkedDom,
+    dom: UnmarkedDom,
     blank: Blank,
 ) -> Result<(), Fail>
     requires name { blank.name ≡ L.name }
@@ -31,40 +31,14 @@ fn take_turns<L: Ledger>(
 {
     let (book, share) = blank.open::<L>();
     let mut steps = Steps::new(book, share);
-    let mut dom = dom;
+    let mut dom = dom.into_marked(alloc);
     edit(rt, alloc, &mut dom, &button(alloc)?, &mut steps)?;
     edit(rt, alloc, &mut dom, &named(alloc)?, &mut steps)?;
-    let (mut dom, reached) = dom.flush(alloc, &mut steps)?;
+    let (dom, reached) = dom.flush(alloc, &mut steps)?;
+    let mut dom = dom.into_marked(alloc);
     edit(rt, alloc, &mut dom, &Edit::Remove(ObjId(2)), &mut steps)?;
     assert!(rt; reached.as_slice().len() == 2);
     assert!(rt; !dom.document().has(ObjId(2)));
-    Ok(())
-}
-
-#[test]
-fn a_flush_comes_first(rt: HostRuntime) -> Result<(), Fail> {
-    let alloc = rt.alloc();
-    let dom = MarkedDom::new(alloc, Dom::new(alloc)?);
-    flush_first::<Brand>(&rt, alloc, dom, Blank::new(1))
-}
-
-/// Flushes a document of which no edit made the index, and edits it then.
-fn flush_first<L: Ledger>(
-    rt: &impl Abort,
-    alloc: Global,
-    dom: MarkedDom,
-    blank: Blank,
-) -> Result<(), Fail>
-    requires name { blank.name ≡ L.name }
-    requires parts { blank.parts ≡ L.parts }
-    requires whole { blank.parts ≡ 1 }
-{
-    let (book, share) = blank.open::<L>();
-    let mut steps = Steps::new(book, share);
-    let (mut dom, reached) = dom.flush(alloc, &mut steps)?;
-    edit(rt, alloc, &mut dom, &button(alloc)?, &mut steps)?;
-    assert!(rt; reached.as_slice().is_empty());
-    assert!(rt; dom.document().has(ObjId(2)));
     Ok(())
 }
 

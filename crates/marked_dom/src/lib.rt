@@ -3,4 +3,4 @@
 
 mod marked;
 
-pub use marked::MarkedDom;
+pub use marked::{MarkedDom, UnmarkedDom};

@@ -9,7 +9,6 @@ ghost use Rattle.dirty_set.specs.Reach.{no_marks, joined_marks, reach, weight};
 ghost use Rattle.dirty_set.specs.Marking.{marked};
 ghost use Rattle.dirty_set.specs.Alike.{AreAlike};
 ghost use Rattle.dirty_set.specs.Covers.{Covers};
-ghost use Rattle.marked_dom.specs.Marked.{IsFollowed};
 
 use ax_base::{Ids, NoMemory, Steps};
 use ax_dom::{Dom, Edit};
@@ -41,18 +40,6 @@ impl Model for MarkedDom {
 }
 
 impl MarkedDom {
-    /// A document without marks.
-    pub fn new(alloc: Global, document: Dom) -> MarkedDom
-        ensures { result ≡ record { document = document; marks = no_marks } }
-    {
-        MarkedDom {
-            document,
-            marks: Marks::empty(alloc),
-            index: None,
-            spare: None,
-        }
-    }
-
     /// The document.
     pub fn document(&self) -> &Dom
         ensures { result.now ≡ self.now.document }
@@ -89,13 +76,13 @@ impl MarkedDom {
         Ok(())
     }
 
-    /// What the marks reach, by rising id, and the document without them.
+    /// The document without its marks, and what they reach, by rising id.
     pub fn flush<L: Ledger>(
         self,
         alloc: Global,
         steps: &mut Steps<L>,
-    ) -> Result<(MarkedDom, Ids), NoMemory>
-        ensures document { IfOk result (λ r. r.0 ≡ record { document = self.document; marks = no_marks }) }
+    ) -> Result<(UnmarkedDom, Ids), NoMemory>
+        ensures document { IfOk result (λ r. r.0 ≡ self.document) }
         ensures reach { IfOk result (λ r. r.1 ≡ reach self.document self.marks) }
         ensures counted { steps.new ≤ steps.old + 3 * weight self.document self.marks }
     {
@@ -107,14 +94,87 @@ impl MarkedDom {
         } = self;
         let index = index_uncounted(alloc, index, &document)?;
         let nodes = marks.reach(alloc, &document, &index, steps)?;
-        let unmarked = Marks::empty(alloc);
-        let rest = MarkedDom {
+        let rest = UnmarkedDom {
             document,
-            marks: unmarked,
-            index: Some(index),
+            index,
             spare,
         };
         Ok((rest, nodes))
+    }
+}
+
+/// A document that nothing has marked since the last flush, with the index of its ids. A clause sees it as the document.
+pub struct UnmarkedDom {
+    document: Dom,
+    index: IdIndex,
+    spare: Option<Dom>,
+}
+
+/// Written out, so that whoever drops one makes one call in its proof.
+impl Drop for UnmarkedDom {
+    fn drop(self) {
+        let UnmarkedDom {
+            document: _document,
+            index: _index,
+            spare: _spare,
+        } = self;
+    }
+}
+
+impl Model for UnmarkedDom {
+    ghost use Rattle.std.specs.Prelude.{Some};
+    ghost use Rattle.ax_base.specs.Document.{Document};
+    ghost use Rattle.marked_dom.specs.Marked.{IsFollowed};
+
+    ghost Value = { Document };
+
+    ghost view = { λ a. a.document };
+
+    ghost invariant = { λ a. IsFollowed a.document (Some a.index) a.spare };
+}
+
+impl UnmarkedDom {
+    /// A document, of which the index is made. It counts no read.
+    pub fn new(alloc: Global, document: Dom) -> Result<UnmarkedDom, NoMemory>
+        ensures { IfOk result (λ d. d ≡ document) }
+    {
+        let index = index_uncounted(alloc, None, &document)?;
+        Ok(UnmarkedDom {
+            document,
+            index,
+            spare: None,
+        })
+    }
+
+    /// The document.
+    pub fn document(&self) -> &Dom
+        ensures { result.now ≡ self.now }
+    {
+        &self.document
+    }
+
+    /// The index of its ids.
+    pub fn index(&self) -> &IdIndex
+        ensures { IsIndexOf self.now result.now }
+    {
+        &self.index
+    }
+
+    /// The document as one that is edited.
+    pub fn into_marked(self, alloc: Global) -> MarkedDom
+        ensures { result ≡ record { document = self; marks = no_marks } }
+    {
+        let UnmarkedDom {
+            document,
+            index,
+            spare,
+        } = self;
+        MarkedDom {
+            document,
+            marks: Marks::empty(alloc),
+            index: Some(index),
+            spare,
+        }
     }
 }
 
