@@ -1,67 +1,45 @@
 -- What a live tree keeps stays right.
-use Rattle.std.proofs.Common.{◌≡◌, ℕ, List, true, false, sym, ap, subst, ◌∙◌}
+use Rattle.std.proofs.Common.{◌≡◌, ℕ, ◌+◌, ◌*◌, ◌≤◌, List, length, true, false, Some, sym, ap, subst, ◌∙◌, arith}
+use Rattle.std.specs.Prelude.{sum_by}
 use Rattle.std.specs.List.Sorted.{IsStrictlyIncreasing}
-use Rattle.ax_base.specs.Document.{Document, has}
+use Rattle.ax_base.specs.Document.{Document, has, order}
 use Rattle.ax_base.specs.Trees.{IsTree}
 use Rattle.ax_dom.specs.Among.{is_in, IsClosedUp}
 use Rattle.ax_record.specs.Tree.{Tree}
 use Rattle.ax_record.specs.Records.{tree}
-use Rattle.dirty_set.specs.Reach.{no_marks, reach}
+use Rattle.ctx_pass.specs.Passes.{count}
+use Rattle.dirty_set.specs.Reach.{Marked, no_marks, reach, weight}
 use Rattle.dirty_set.specs.Covers.{Covers}
 use Rattle.dirty_set.proofs.Covering.{covers_none}
-use Rattle.ctx_pass.specs.declared.contexts.Context.{Context}
-use Rattle.ctx_pass.specs.Contexts.{AreContextsOf, IsContextKept}
-use Rattle.kids_pass.specs.declared.children.NodeKids.{NodeKids}
-use Rattle.kids_pass.specs.Kids.{AreKidsOf, IsKidsKept}
+use Rattle.dirty_set.proofs.Weighing.{length_weighs}
 use Rattle.tree_diff.specs.Alike.{AreAlikeBut}
+use Rattle.live_tree.specs.declared.passes.Passes.{Passes}
 use Rattle.live_tree.specs.LiveTrees.{LiveDocument, unmarked}
 use Rattle.marked_dom.specs.Marked.{MarkedDocument}
-use Rattle.live_tree.specs.Living.{IsLive, WasAlike, IsRightBut, IsPresent}
-use Rattle.live_tree.proofs.Reached.{reach_rises, reach_closed, still_alike, contexts_kept, kids_kept}
+use Rattle.live_tree.specs.Living.{ArePassesOf, ArePassesBut, IsLive, WasAlike, HasFocusAmong, IsRightBut, IsPresent}
+use Rattle.live_tree.proofs.Counting.{pass_few}
+use Rattle.live_tree.proofs.Reached.{reach_rises, reach_closed, reach_focused, still_alike, passes_kept}
 
 -- after a flush, and at the start
-pub begins : (shown : Tree) (dom : MarkedDocument) (contexts : List (ℕ × Context)) (kids : List (ℕ × NodeKids)) (d : Document) → IsTree d → shown ≡ tree d → dom ≡ record { document = d; marks = no_marks }
-    → AreContextsOf d contexts → AreKidsOf d kids → IsLive shown dom contexts kids
-begins shown dom contexts kids d t shows is contexts_are kids_are = record {
+pub begins : (shown : Tree) (dom : MarkedDocument) (p : Passes) (d : Document) → IsTree d → shown ≡ tree d → dom ≡ record { document = d; marks = no_marks } → ArePassesOf d p → IsLive shown dom p
+begins shown dom p d t shows is are = record {
   flushed = d;
   was_tree = t;
   shows = shows;
   covers = subst (λ (x : MarkedDocument). Covers d x.document x.marks) (sym is) (covers_none d no_marks);
-  contexts_are = contexts_are;
-  kids_are = kids_are;
+  passes = are;
 }
 
 -- after an edit
-pub goes_on : (shown : Tree) (old new : MarkedDocument) (contexts : List (ℕ × Context)) (kids : List (ℕ × NodeKids)) → IsLive shown old contexts kids
-    → ((flushed : Document) → Covers flushed old.document old.marks → Covers flushed new.document new.marks) → IsLive shown new contexts kids
-goes_on shown old new contexts kids live covers = record {
-  flushed = live.flushed;
-  was_tree = live.was_tree;
-  shows = live.shows;
-  covers = covers live.flushed live.covers;
-  contexts_are = live.contexts_are;
-  kids_are = live.kids_are;
-}
+pub goes_on : (shown : Tree) (old new : MarkedDocument) (p : Passes) → IsLive shown old p → ((flushed : Document) → Covers flushed old.document old.marks → Covers flushed new.document new.marks) → IsLive shown new p
+goes_on shown old new p live covers = record { flushed = live.flushed; was_tree = live.was_tree; shows = live.shows; covers = covers live.flushed live.covers; passes = live.passes }
 
-module _ (shown : Tree) (dom : MarkedDocument) (contexts : List (ℕ × Context)) (kids : List (ℕ × NodeKids)) (live : IsLive shown dom contexts kids)
-    (d : Document) (at : d ≡ dom.document) (t : IsTree d) (ns : List ℕ) (is : ns ≡ reach dom.document dom.marks) where
+module _ (shown : Tree) (dom : MarkedDocument) (p : Passes) (live : IsLive shown dom p) (d : Document) (at : d ≡ dom.document) (t : IsTree d) (ns : List ℕ) (is : ns ≡ reach dom.document dom.marks) where
   covered : Covers live.flushed d dom.marks
   covered = subst (λ x. Covers live.flushed x dom.marks) (sym at) live.covers
 
   reach_is : ns ≡ reach d dom.marks
   reach_is = is ∙ ap (λ x. reach x dom.marks) (sym at)
-
-  nodes_rise : IsStrictlyIncreasing ns
-  nodes_rise = subst IsStrictlyIncreasing (sym reach_is) (reach_rises d t dom.marks)
-
-  nodes_closed : IsClosedUp d ns
-  nodes_closed = subst (IsClosedUp d) (sym reach_is) (reach_closed d t dom.marks)
-
-  other_contexts : (n : ℕ) → has d n ≡ true → is_in ns n ≡ false → IsContextKept d contexts n
-  other_contexts n there out = contexts_kept d t dom.marks live.flushed covered contexts live.contexts_are n there (ap (λ l. is_in l n) (sym reach_is) ∙ out)
-
-  other_kids : (n : ℕ) → has d n ≡ true → is_in ns n ≡ false → IsKidsKept d kids n
-  other_kids n there out = kids_kept d t dom.marks live.flushed covered kids live.kids_are n there (ap (λ l. is_in l n) (sym reach_is) ∙ out)
 
   was_alike : WasAlike shown d ns
   was_alike = record {
@@ -72,8 +50,18 @@ module _ (shown : Tree) (dom : MarkedDocument) (contexts : List (ℕ × Context)
   }
 
   -- all but what the marks reach is right
-  pub right_but : IsRightBut shown d contexts kids ns
-  right_but = record { rising = nodes_rise; closed = nodes_closed; was = was_alike; other_contexts = other_contexts; other_kids = other_kids }
+  pub right_but : IsRightBut shown d p ns
+  right_but = record {
+    rising = subst IsStrictlyIncreasing (sym reach_is) (reach_rises d t dom.marks);
+    closed = subst (IsClosedUp d) (sym reach_is) (reach_closed d t dom.marks);
+    focus = subst (HasFocusAmong d) (sym reach_is) (reach_focused d t dom.marks);
+    was = was_alike;
+    others = subst (ArePassesBut d p) (sym reach_is) (passes_kept d t dom.marks live.flushed covered p live.passes);
+  }
+
+-- what the marks reach is no more than they weigh
+pub reach_weighs : (d : Document) (m : Marked) (ns : List ℕ) → ns ≡ reach d m → length ns ≤ weight d m
+reach_weighs d m ns is = subst (λ (l : List ℕ). length l ≤ sum_by (Rattle.dirty_set.specs.Reach.weight_of d) (reach d m)) (sym is) (length_weighs d (reach d m))
 
 -- a tree and a document with its marks, as one value
 abbrev pub live_document : Tree → MarkedDocument → LiveDocument
@@ -84,28 +72,40 @@ module _ (shown : Tree) (dom : MarkedDocument) (self : LiveDocument) (view : liv
   document_is : d ≡ self.document
   document_is = at ∙ ap (λ (x : LiveDocument). x.document) view
 
-  pub now_flushed : (after : Tree) (next : MarkedDocument) → after ≡ tree d → next ≡ record { document = dom.document; marks = no_marks } → live_document after next ≡ unmarked (tree self.document) self.document
-  now_flushed after next is same = λ i. live_document ((is ∙ ap tree document_is) i) ((same ∙ unmarked_is) i)
+  pub now_flushed : (after : Tree) (next : MarkedDocument) → after ≡ tree d → next ≡ record { document = d; marks = no_marks } → live_document after next ≡ unmarked (tree self.document) self.document
+  now_flushed after next is same = λ i. live_document ((is ∙ ap tree document_is) i) ((same ∙ ap without document_is) i)
     where
       without : Document → MarkedDocument
       without x = record { document = x; marks = no_marks }
-
-      unmarked_is : without dom.document ≡ without self.document
-      unmarked_is = ap without (sym at ∙ document_is)
 
   pub between : {X : Type 0} (f : Tree → Tree → X) (value : X) → value ≡ f shown (tree d) → value ≡ f self.flushed (tree self.document)
   between f value is = is ∙ (λ i. f (ap (λ (x : LiveDocument). x.flushed) view i) (ap tree document_is i))
 
 -- what is renewed stands in a list that is the nodes
-module _ (kept : Tree) (d : Document) (contexts : List (ℕ × Context)) (kids : List (ℕ × NodeKids)) (ns : List ℕ) (right : IsRightBut kept d contexts kids ns) (listed : List ℕ) (is : listed ≡ ns) where
-  pub is_present : IsTree d → (fresh : List (ℕ × Context)) (lists : List (ℕ × NodeKids)) → AreContextsOf d fresh → AreKidsOf d lists → IsPresent d fresh lists listed
-  is_present t fresh lists contexts_are kids_are = record {
+module _ (kept : Tree) (d : Document) (p : Passes) (ns : List ℕ) (right : IsRightBut kept d p ns) (listed : List ℕ) (is : listed ≡ ns) where
+  pub is_present : IsTree d → (fresh : Passes) → ArePassesOf d fresh → IsPresent d fresh listed
+  is_present t fresh are = record {
     tree = t;
-    contexts_are = contexts_are;
-    kids_are = kids_are;
+    passes = are;
     rising = subst IsStrictlyIncreasing (sym is) right.rising;
     closed = subst (IsClosedUp d) (sym is) right.closed;
+    focus = subst (HasFocusAmong d) (sym is) right.focus;
   }
 
   pub was_but : WasAlike kept d listed
   was_but = subst (WasAlike kept d) (sym is) right.was
+
+-- the reads of a renewal: eight for each node that is renewed, and five for its records
+pub passes_read : (d : Document) → IsTree d → (ns : List ℕ) (first passed : ℕ) → passed ≤ first + 8 * count (Some ns) (order d) → passed ≤ first + 13 * length ns
+passes_read d t ns first passed read = let few = pass_few d t ns in omega arith
+
+pub all_read : (d : Document) → IsTree d → (ns listed : List ℕ) (first passed last : ℕ) → listed ≡ ns → passed ≤ first + 8 * count (Some ns) (order d) → last ≤ passed + 5 * length listed → last ≤ first + 13 * length ns
+all_read d t ns listed first passed last is read more = let few = pass_few d t ns in let same = ap length is in omega arith
+
+-- those of a flush, with three for what the marks weigh
+pub flush_read : (dom : MarkedDocument) (self : LiveDocument) (shown : Tree) → live_document shown dom ≡ self → (ns : List ℕ) → ns ≡ reach dom.document dom.marks → (first found last : ℕ)
+    → found ≤ first + 3 * weight dom.document dom.marks → last ≤ found + 13 * length ns → last ≤ first + 16 * weight self.document self.marks
+flush_read dom self shown view ns is first found last reached renewed =
+    let few = reach_weighs dom.document dom.marks ns is in
+    let same : weight dom.document dom.marks ≡ weight self.document self.marks = ap (λ (x : LiveDocument). weight x.document x.marks) view in
+    omega arith

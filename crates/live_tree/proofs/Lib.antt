@@ -1,4 +1,5 @@
 pub mod Reached
 pub mod Remaking
+pub mod Counting
 pub mod Flushing
 pub mod Turning

@@ -1,5 +1,5 @@
 -- The records that are made anew are those of the tree.
-use Rattle.std.proofs.Common.{◌≡◌, ◌⊎◌, inl, inr, ℕ, ◌-◌, ◌+◌, ◌<◌, length, get_or, take, drop, append_assoc, List, [], ◌∷◌, ◌++◌, Bool, true, false, cond, not, ◌||◌, Option, Some, None, Contains, refl, sym, ap, subst, ◌∙◌, eqb, arith}
+use Rattle.std.proofs.Common.{◌≡◌, ◌⊎◌, inl, inr, ℕ, ◌-◌, ◌+◌, ◌<◌, length, get_or, take, drop, append_assoc, List, [], ◌∷◌, ◌++◌, Bool, true, false, cond, not, ◌||◌, Option, Some, None, Contains, refl, sym, ap, subst, ◌∙◌, eqb, ◌==◌, arith}
 use Rattle.std.specs.Prelude.{nat_eq, filter}
 use Rattle.std.specs.List.{list_any, flat_map}
 use Rattle.std.specs.Ordering.{nat_cmp}
@@ -8,9 +8,15 @@ use Rattle.std.specs.Cmp.{nat_eq_equiv}
 use Rattle.std.proofs.lemmas.Bool.{eqb-true, false≢true}
 use Rattle.std.proofs.lemmas.List.{drop_more, take_more, flat_map_more}
 use Rattle.std.proofs.lemmas.Map.Views.{Contains-from_any, list_any-from_Contains}
-use Rattle.ax_base.specs.Document.{Document, Spot, has, spot, root}
-use Rattle.ax_base.specs.Context.{is_out}
-use Rattle.ax_base.specs.Roles.{ignored}
+use Rattle.ax_base.specs.declared.role.Role.{Role}
+use Rattle.ax_base.specs.declared.states.Live.{Live}
+use Rattle.ax_base.specs.Characters.{Chars}
+use Rattle.ax_base.specs.AccessibleNames.{name_of, description_of}
+use Rattle.ax_base.specs.Document.{Document, Spot, has, spot, body, root}
+use Rattle.ax_base.specs.Rects.{HasRectsWithin}
+use Rattle.ax_base.specs.Context.{is_out, live_at}
+use Rattle.ax_base.specs.Roles.{role, role_of, ignored}
+use Rattle.ax_base.specs.States.{value, states, level}
 use Rattle.ax_base.specs.Trees.{IsTree}
 use Rattle.ax_base.specs.Kids.{kids, objects}
 use Rattle.ax_base.proofs.Lookups.{finds_is, lookup-insert_entry}
@@ -22,13 +28,15 @@ use Rattle.ax_dom.specs.declared.cell.Cell.{Cell}
 use Rattle.ax_dom.specs.Slots.{cell_of, cell_at}
 use Rattle.ctx_pass.specs.declared.contexts.Context.{Context}
 use Rattle.ctx_pass.specs.Contexts.{context_of}
+use Rattle.ax_fresh.specs.Contents.{record_by}
 use Rattle.ax_fresh.specs.Gathering.{with_records}
 use Rattle.ax_fresh.proofs.Put.{with_records-append}
 use Rattle.ax_record.specs.declared.record.Record.{Record}
 use Rattle.ax_record.specs.Tree.{Tree, entry_at, record_at, kids_of, IsKid}
 use Rattle.ax_record.specs.ObjectTrees.{IsObjectTree}
-use Rattle.ax_record.specs.Records.{tree, record_of, is_object}
+use Rattle.ax_record.specs.Records.{tree, record_of, holder, is_object, frame_of, chars_of, runs_of}
 use Rattle.ax_record.proofs.TreeOf.{object_is, is_one, record_is, kids_are, kid_is, tree_hangs}
+use Rattle.tree_diff.specs.Alike.{IsAlike}
 use Rattle.tree_diff.specs.Lost.{lost}
 use Rattle.tree_diff.specs.Candidates.{hung_on, is_renewed_kid, renewed_kids, candidates, IsSortedFrom}
 use Rattle.tree_diff.proofs.Covering.{in_left, in_right, either_side, kids_closed}
@@ -38,7 +46,7 @@ use Rattle.dirty_set.proofs.Edits.{kept_in}
 use Rattle.dirty_set.proofs.Firsts.{kept_cases}
 use Rattle.live_tree.specs.Remaking.{root_among, remade, AreHungOn}
 
-none_some : {X : Type 0} (x : X) → None ≡ Some x → ⊥
+pub none_some : {X : Type 0} (x : X) → None ≡ Some x → ⊥
 none_some x e = cc
 
 -- a node that is not found is not there
@@ -57,9 +65,16 @@ a_cell d n c is = go (has d n) refl is
     go true there e = (refl, cc)
     go false gone e = absurd (none_some c (sym e))
 
--- it is the one with its own place
-pub own_cell : (d : Document) (n : ℕ) (c : Cell) → Some c ≡ cell_at d n → c ≡ cell_of d c.id
-own_cell d n c is = let there = a_cell d n c is in there.1 ∙ ap (cell_of d) (sym (ap (λ (x : Cell). x.id) there.1))
+-- its rectangles are within bounds
+pub rects_within : (d : Document) → IsTree d → (n : ℕ) (c : Cell) → Some c ≡ cell_at d n → HasRectsWithin c.body
+rects_within d t n c is = subst (λ (x : Cell). HasRectsWithin x.body) (sym (a_cell d n c is).1) (t.within n)
+
+-- the record that is made of it, with what is known of the node, is that of the node
+pub made_of : (d : Document) (n : ℕ) (c : Cell) (of : Role) (at : Live) (above : Option ℕ) (below : List ℕ) (name description : Chars) → c ≡ cell_of d n → of ≡ role_of (n == root) c.body → at ≡ live_at d n
+    → above ≡ holder d n → below ≡ kids d n → name ≡ name_of d n → description ≡ description_of d n → record_by c of at above below name description ≡ record_of d n
+made_of d n c of at above below name description is role_is live_is above_is below_is name_is description_is =
+    let whole : of ≡ role_of (n == root) (body d n) = role_is ∙ ap (λ (x : Cell). role_of (n == root) x.body) is in
+    λ i. record_by (is i) (whole i) (live_is i) (above_is i) (below_is i) (name_is i) (description_is i)
 
 -- whether a node is out, by what is kept of it
 pub out_of : (d : Document) (n : ℕ) (here : Context) (b : Bool) → here ≡ context_of d n → b ≡ (here.hidden || here.pruned) → is_out d n ≡ b
@@ -211,3 +226,50 @@ module _ (d : Document) (t : IsTree d) where
         (λ on. is_one d t n (remade_object n (Contains-from_any eqb-true n (remade before d ns) on)))
         (λ on. list_any-from_Contains nat_eq_equiv n (remade before d ns) (object_remade hangs n (sorted.only n inside) (object_is d t n on))))
         ∙ sym (record_is d t n)
+
+-- one object that hangs on another, as a list
+pub one_hung : (d : Document) (n k : ℕ) → Contains (objects d) n → Contains (kids d n) k → AreHungOn d n (k ∷ [])
+one_hung d n k object kid = (
+  object,
+  λ q inside. elim (Contains-cases q k [] inside) [ inl is ↦ subst (Contains (kids d n)) is kid | inr none ↦ absurd (omega arith) ],
+)
+
+-- a record with another parent
+abbrev pub hung_elsewhere : Record → Option ℕ → Record
+hung_elsewhere r p = record { id = r.id; role = r.role; name = r.name; description = r.description; value = r.value; states = r.states; level = r.level; live = r.live; frame = r.frame; text = r.text; runs = r.runs; parent = p; kids = r.kids }
+
+-- an object that is alike in two documents has the same record in both, but for its parent
+module _ (old now : Document) (u : IsTree old) (t : IsTree now) (n : ℕ) (same : IsAlike old now n) (object : Contains (objects now) n) where
+  pub was_object : is_object old n ≡ true
+  was_object =
+      shown_one old u n same.was (same.out ∙ objects_visible now t n object)
+      ∙ ap (λ b. not (ignored (record { id = n; body = b }))) same.body_same
+      ∙ ap not (objects_shown now t n object)
+
+  pub moved_record : record_of now n ≡ hung_elsewhere (record_of old n) (holder now n)
+  moved_record = sym (λ i. record {
+    id = n;
+    role = role (record { id = n; body = same.body_same i });
+    name = same.name i;
+    description = same.description i;
+    value = value (record { id = n; body = same.body_same i });
+    states = states (record { id = n; body = same.body_same i });
+    level = level (record { id = n; body = same.body_same i });
+    live = same.live i;
+    frame = frame_of (same.body_same i);
+    text = chars_of (same.body_same i);
+    runs = runs_of (same.body_same i);
+    parent = holder now n;
+    kids = same.kids_are i;
+  })
+
+  -- it is put in with the object that it hangs on now
+  pub moved_put : (es new : List (ℕ × Record)) (copied : Record) (above : ℕ) → new ≡ insert_entry nat_cmp es copied.id (hung_elsewhere copied (Some above)) → Some copied ≡ Some (record_of old n) → holder now n ≡ Some above
+      → new ≡ insert_entry nat_cmp es n (record_of now n)
+  moved_put es new copied above is found held =
+      let same : copied ≡ record_of old n = cc in
+      is ∙ (λ i. insert_entry nat_cmp es (same i).id (hung_elsewhere (same i) (sym held i))) ∙ (λ i. insert_entry nat_cmp es n (sym moved_record i))
+
+  -- the tree before has the object
+  pub was_there : (kept : Tree) → kept ≡ tree old → record_at kept n ≡ Some (record_of old n)
+  was_there kept is = ap (λ x. record_at x n) is ∙ record_is old u n ∙ ap (λ b. cond b (Some (record_of old n)) None) was_object

@@ -1,5 +1,5 @@
 //! The document of the page, and its tree at the last flush.
-ghost use Rattle.std.specs.Prelude.{◌≡◌, ◌<◌, IfOk, IfErr, OnOk, OnErr, None, Some, if◌then◌else◌, option_copied};
+ghost use Rattle.std.specs.Prelude.{◌≡◌, ◌<◌, ◌≤◌, ◌+◌, ◌*◌, length, IfOk, IfErr, OnOk, OnErr, None, Some, if◌then◌else◌, option_copied};
 ghost use Rattle.ax_base.specs.Document.{Document, root};
 ghost use Rattle.ax_base.specs.Trees.{IsTree};
 ghost use Rattle.ax_dom.specs.Bounds.{EditKeepsBounds};
@@ -12,14 +12,12 @@ ghost use Rattle.ax_batch.specs.Batches.{batch_between};
 ghost use Rattle.ax_notice.specs.Candidates.{AreCandidates};
 ghost use Rattle.ax_notice.specs.Notices.{notices_between};
 ghost use Rattle.tree_diff.specs.Candidates.{HaveAllDiffering};
-ghost use Rattle.dirty_set.specs.Reach.{joined_marks};
+ghost use Rattle.dirty_set.specs.Reach.{joined_marks, weight};
 ghost use Rattle.dirty_set.specs.Marking.{marked};
 ghost use Rattle.dirty_set.specs.Alike.{AreAlike};
 ghost use Rattle.dirty_set.specs.Covers.{Covers};
-ghost use Rattle.ctx_pass.specs.Contexts.{AreContextsOf};
-ghost use Rattle.kids_pass.specs.Kids.{AreKidsOf};
 ghost use Rattle.live_tree.specs.LiveTrees.{unmarked};
-ghost use Rattle.live_tree.specs.Living.{IsRightBut};
+ghost use Rattle.live_tree.specs.Living.{ArePassesOf, IsRightBut};
 
 use crate::passes::{Passes, passes_uncounted};
 use crate::renewing::renewed_tree;
@@ -30,18 +28,28 @@ use ax_fresh::tree_of;
 use ax_notice::notices_among;
 use ax_record::{Record, TreeView};
 use kept_tree::{KeptTree, RenewedTree};
-use marked_dom::MarkedDom;
+use marked_dom::{MarkedDom, UnmarkedDom};
 use std::alloc::Global;
 use std::marker::{Brand, Model};
 use std::sync::ledger::{Blank, Ledger};
 use tree_diff::batch_among;
 
 /// A document that is edited, and the tree that it had at the last flush. As a view it is that tree.
-#[derive(Drop)]
 pub struct LiveTree {
     flushed: KeptTree,
     dom: MarkedDom,
     passes: Passes,
+}
+
+/// Written out, so that whoever drops one makes one call in its proof.
+impl Drop for LiveTree {
+    fn drop(self) {
+        let LiveTree {
+            flushed: _flushed,
+            dom: _dom,
+            passes: _passes,
+        } = self;
+    }
 }
 
 /// What a flush hands on: what differs from the tree before to the tree after, and what is told of it.
@@ -62,7 +70,7 @@ impl Model for LiveTree {
 
     ghost view = { λ t. record { flushed = t.flushed; document = t.dom.document; marks = t.dom.marks } };
 
-    ghost invariant = { λ t. IsLive t.flushed t.dom t.passes.contexts t.passes.kids };
+    ghost invariant = { λ t. IsLive t.flushed t.dom t.passes };
 }
 
 impl TreeView for LiveTree {
@@ -87,11 +95,12 @@ impl LiveTree {
         ensures { IfOk result (λ t. t ≡ unmarked (tree dom) dom) }
     {
         let flushed = KeptTree::copy_of(alloc, &tree_of(alloc, &dom)?)?;
-        let passes = passes_uncounted(alloc, &dom)?;
-        dom.keeps_tree();
+        let dom = UnmarkedDom::new(alloc, dom)?;
+        let passes = passes_uncounted(alloc, dom.document(), dom.index())?;
+        dom.document().keeps_tree();
         Ok(LiveTree {
             flushed,
-            dom: MarkedDom::new(alloc, dom),
+            dom: dom.into_marked(alloc),
             passes,
         })
     }
@@ -114,8 +123,8 @@ impl LiveTree {
         Ok(())
     }
 
-    /// Brings the tree to the present document, for a moment of that number. It counts the reads of the document. At `Err`
-    /// the live tree is given up.
+    /// Brings the tree to the present document, for a moment of that number. It counts the reads of the document: sixteen at
+    /// most of what the marks weigh, at `Err` too. At `Err` the live tree is given up.
     pub fn flush<L: Ledger>(
         self,
         alloc: Global,
@@ -125,19 +134,19 @@ impl LiveTree {
         ensures tree { IfOk result (λ r. r.0 ≡ unmarked (tree self.document) self.document) }
         ensures batch { IfOk result (λ r. r.1.batch ≡ batch_between self.flushed (tree self.document)) }
         ensures notices { IfOk result (λ r. r.1.notices ≡ notices_between self.flushed (tree self.document) moment) }
+        ensures counted { steps.new ≤ steps.old + 16 * weight self.document self.marks }
     {
         let LiveTree {
-            flushed: old,
+            flushed: kept,
             dom,
             passes,
         } = self;
         let (dom, reach) = dom.flush(alloc, steps)?;
-        let now = dom.document();
-        now.keeps_tree();
-        let (flushed, passes, sent) = renewed(alloc, old, passes, now, &reach, moment, steps)?;
+        dom.document().keeps_tree();
+        let (flushed, passes, sent) = renewed(alloc, kept, passes, &dom, &reach, moment, steps)?;
         let live = LiveTree {
             flushed,
-            dom,
+            dom: dom.into_marked(alloc),
             passes,
         };
         Ok((live, sent))
@@ -145,25 +154,26 @@ impl LiveTree {
 }
 
 /// The tree of a document and what is kept of its nodes, made of those of an earlier document that is alike at each node
-/// but some; and what differs, and what is told of it.
+/// but some; and what differs, and what is told of it. It reads each of these nodes thirteen times at most, and no other.
 fn renewed<L: Ledger>(
     alloc: Global,
     kept: KeptTree,
     passes: Passes,
-    now: &Dom,
+    dom: &UnmarkedDom,
     reach: &Ids,
     moment: Moment,
     steps: &mut Steps<L>,
 ) -> Result<(KeptTree, Passes, Flushed), NoMemory>
-    requires right { IsRightBut kept now.now passes.contexts passes.kids reach.now }
-    ensures tree { IfOk result (λ r. r.0 ≡ tree now.now) }
-    ensures contexts { IfOk result (λ r. AreContextsOf now.now r.1.contexts) }
-    ensures kids { IfOk result (λ r. AreKidsOf now.now r.1.kids) }
-    ensures batch { IfOk result (λ r. r.2.batch ≡ batch_between kept (tree now.now)) }
-    ensures notices { IfOk result (λ r. r.2.notices ≡ notices_between kept (tree now.now) moment) }
+    requires right { IsRightBut kept dom.now passes reach.now }
+    ensures tree { IfOk result (λ r. r.0 ≡ tree dom.now) }
+    ensures passes { IfOk result (λ r. ArePassesOf dom.now r.1) }
+    ensures batch { IfOk result (λ r. r.2.batch ≡ batch_between kept (tree dom.now)) }
+    ensures notices { IfOk result (λ r. r.2.notices ≡ notices_between kept (tree dom.now) moment) }
+    ensures counted { steps.new ≤ steps.old + 13 * length reach.now }
 {
+    let now = dom.document();
     now.keeps_tree();
-    let passes = passes.renew(alloc, now, reach, steps)?;
+    let passes = passes.renew(alloc, now, dom.index(), reach, steps)?;
     let turned = renewed_tree(alloc, kept, now, &passes, reach.as_slice(), steps)?;
     let sent = told(alloc, &turned, moment)?;
     let settled = turned.settle()?;
