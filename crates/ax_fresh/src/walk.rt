@@ -18,7 +18,7 @@ use ax_base::{Ids, Live, NoMemory, ObjId, Role, Steps};
 use ax_dom::{Cell, Dom};
 use ax_names::Names;
 use ax_record::{FreshTree, RecordMap};
-use ax_roles::{node_hides, node_is_ignored, node_role, prunes};
+use ax_roles::{Inclusion, node_hides, node_inclusion, node_role, prunes};
 use std::alloc::Global;
 use std::sync::ledger::Ledger;
 
@@ -180,27 +180,30 @@ fn gather_child<L: Ledger>(
     let Some(cell) = dom.cell(child, steps) else {
         return Ok(());
     };
-    if node_hides(child, &cell.body) {
-        return Ok(());
-    }
     let role = node_role(child, &cell.body);
     let live = live_by(role, &cell.body).unwrap_or(around);
-    if node_is_ignored(child, role, &cell.body) {
-        let shut = prunes(role);
-        return gather_inside(
-            alloc, dom, child, shut, live, above, found, names, records, steps,
-        );
+    let hidden = node_hides(child, &cell.body);
+    match node_inclusion(child, role, &cell.body, hidden) {
+        Inclusion::Excluded => Ok(()),
+        Inclusion::Ignored => {
+            let shut = prunes(role);
+            gather_inside(
+                alloc, dom, child, shut, live, above, found, names, records, steps,
+            )
+        }
+        Inclusion::Included => {
+            put_object(
+                alloc,
+                dom,
+                cell,
+                role,
+                live,
+                Some(above),
+                names,
+                records,
+                steps,
+            )?;
+            found.push(child)
+        }
     }
-    put_object(
-        alloc,
-        dom,
-        cell,
-        role,
-        live,
-        Some(above),
-        names,
-        records,
-        steps,
-    )?;
-    found.push(child)
 }

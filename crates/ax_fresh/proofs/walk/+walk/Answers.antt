@@ -1,4 +1,4 @@
-use Rattle.std.proofs.Common.{◌≡◌, ◌∙◌, ◌++◌, true, sym, ap, subst, arith, append-nil}
+use Rattle.std.proofs.Common.{refl, ◌≡◌, ◌∙◌, ◌++◌, true, sym, ap, subst, arith, append-nil}
 use Rattle.std.proofs.lemmas.Result.{on_ok_weaker}
 use Rattle.std.specs.List.{flat_map}
 use Rattle.std.specs.Option.{unwrap_or}
@@ -8,6 +8,8 @@ use Rattle.ax_base.specs.Kids.{kids, taken}
 use Rattle.ax_base.proofs.KidsLaws.{live-child}
 use Rattle.ax_base.proofs.Objects.{objects_known}
 use Rattle.ax_dom.specs.declared.cell.Cell.{Cell}
+use Rattle.ax_base.specs.Roles.{ignored}
+use Rattle.ax_roles.proofs.Parts.{by_excluded, by_ignored, by_included}
 use Rattle.ax_fresh.specs.Gathering.{with_records, put_order, AreKidsOf}
 use Rattle.ax_fresh.proofs.Gathered.{child_of, cell_is, descends, shut_kids, shut_by_role, out_by_itself, shown_child, taken_hidden, live_is, more_kids, more_records, all_kids, all_put, hangs, taken_past, child_object, put_last}
 use Rattle.ax_fresh.proofs.walk.+walk.Goals as goal
@@ -42,9 +44,10 @@ pub gather_child-gather_inside-requires : goal.gather_child-gather_inside-requir
 gather_child-gather_inside-requires g t c κs within =
     let d = c.args.dom.now in
     let tree = c.in-Some.ensures.tree in
+    let part = by_ignored c.node_hides-hidden.result (ignored (record { id = c.args.child; body = c.in-Some.cell.now.body })) c.in-Ignored.ensures in
     let is_body : c.in-Some.cell.now.body ≡ body d c.args.child = ap (λ (x : Cell). x.body) (cell_is d c.args.child c.in-Some.cell.now c.in-Some.ensures.value) in
-    let visible = shown_child d tree c.args.child c.in-Some.cell.now.body c.node_hides.result is_body c.node_hides.ensures c.if-node_hides.false c.requires.visible in
-    let gives : taken d c.args.child ≡ kids d c.args.child = taken_past d tree c.args.child c.in-Some.cell.now.body c.node_is_ignored.result is_body c.node_is_ignored.ensures c.if-node_is_ignored.true visible in
+    let visible = shown_child d tree c.args.child c.in-Some.cell.now.body c.node_hides-hidden.result is_body c.node_hides-hidden.ensures part.0 c.requires.visible in
+    let gives : taken d c.args.child ≡ kids d c.args.child = taken_past d tree c.args.child c.in-Some.cell.now.body (ignored (record { id = c.args.child; body = c.in-Some.cell.now.body })) is_body refl part.1 visible in
     let shut = c.prunes-shut.ensures ∙ shut_by_role d tree c.args.child c.node_role-role.result c.in-Some.cell.now.body c.requires.known is_body c.node_role-role.ensures visible in
     let same = live_is d tree c.args.child c.in-Some.cell.now.body c.node_role-role.result c.unwrap_or-live.result c.args.around is_body c.node_role-role.ensures (c.unwrap_or-live.ensures ∙ ap (λ o. unwrap_or o c.args.around) c.live_by.ensures) c.requires.around in
     let l = c.decreases in
@@ -54,29 +57,32 @@ pub gather_child-put_object-requires : goal.gather_child-put_object-requires
 gather_child-put_object-requires g t c κs within =
     let d = c.args.dom.now in
     let tree = c.in-Some.ensures.tree in
+    let part = by_included c.node_hides-hidden.result (ignored (record { id = c.args.child; body = c.in-Some.cell.now.body })) c.in-Included.ensures in
     let cell = cell_is d c.args.child c.in-Some.cell.now c.in-Some.ensures.value in
     let l = c.decreases in
     let m : depth d c.in-Some.cell.now.id ≡ depth d c.args.child = ap (λ (x : Cell). depth d x.id) cell in
     let is_body : c.in-Some.cell.now.body ≡ body d c.args.child = ap (λ (x : Cell). x.body) cell in
-    let visible = shown_child d tree c.args.child c.in-Some.cell.now.body c.node_hides.result is_body c.node_hides.ensures c.if-node_hides.false c.requires.visible in
+    let visible = shown_child d tree c.args.child c.in-Some.cell.now.body c.node_hides-hidden.result is_body c.node_hides-hidden.ensures part.0 c.requires.visible in
     let same = live_is d tree c.args.child c.in-Some.cell.now.body c.node_role-role.result c.unwrap_or-live.result c.args.around is_body c.node_role-role.ensures (c.unwrap_or-live.ensures ∙ ap (λ o. unwrap_or o c.args.around) c.live_by.ensures) c.requires.around in
-    let told = child_object d tree c.args.above c.args.child c.in-Some.cell.now c.node_role-role.result c.node_is_ignored.result cell c.node_role-role.ensures c.node_is_ignored.ensures c.if-node_is_ignored.false visible c.unwrap_or-live.result same c.requires.hung in
+    let told = child_object d tree c.args.above c.args.child c.in-Some.cell.now c.node_role-role.result (ignored (record { id = c.args.child; body = c.in-Some.cell.now.body })) cell c.node_role-role.ensures refl part.1 visible c.unwrap_or-live.result same c.requires.hung in
     (omega arith, (within, (tree, (told.0, (told.1.0, (told.1.1.0, (told.1.1.1.0, (told.1.1.1.1.0, (told.1.1.1.1.1, c.requires.names)))))))))
 
-pub gather_child-returns-then-node_hides-clause-kids : goal.gather_child-returns-then-node_hides-clause-kids
-gather_child-returns-then-node_hides-clause-kids g t c =
+pub gather_child-returns-in-Excluded-clause-kids : goal.gather_child-returns-in-Excluded-clause-kids
+gather_child-returns-in-Excluded-clause-kids g t c =
     let d = c.args.dom.now in
     let tree = c.in-Some.ensures.tree in
+    let part = by_excluded c.node_hides-hidden.result (ignored (record { id = c.args.child; body = c.in-Some.cell.now.body })) c.in-Excluded.ensures in
     let is_body : c.in-Some.cell.now.body ≡ body d c.args.child = ap (λ (x : Cell). x.body) (cell_is d c.args.child c.in-Some.cell.now c.in-Some.ensures.value) in
-    let none = taken_hidden d tree c.args.child c.in-Some.cell.now.body c.node_hides.result is_body c.node_hides.ensures c.if-node_hides.true c.requires.visible in
+    let none = taken_hidden d tree c.args.child c.in-Some.cell.now.body c.node_hides-hidden.result is_body c.node_hides-hidden.ensures part c.requires.visible in
     sym (ap (λ ks. c.args.found.now ++ ks) none ∙ append-nil c.args.found.now)
 
-pub gather_child-returns-then-node_hides-clause-records : goal.gather_child-returns-then-node_hides-clause-records
-gather_child-returns-then-node_hides-clause-records g t c =
+pub gather_child-returns-in-Excluded-clause-records : goal.gather_child-returns-in-Excluded-clause-records
+gather_child-returns-in-Excluded-clause-records g t c =
     let d = c.args.dom.now in
     let tree = c.in-Some.ensures.tree in
+    let part = by_excluded c.node_hides-hidden.result (ignored (record { id = c.args.child; body = c.in-Some.cell.now.body })) c.in-Excluded.ensures in
     let is_body : c.in-Some.cell.now.body ≡ body d c.args.child = ap (λ (x : Cell). x.body) (cell_is d c.args.child c.in-Some.cell.now c.in-Some.ensures.value) in
-    let none = taken_hidden d tree c.args.child c.in-Some.cell.now.body c.node_hides.result is_body c.node_hides.ensures c.if-node_hides.true c.requires.visible in
+    let none = taken_hidden d tree c.args.child c.in-Some.cell.now.body c.node_hides-hidden.result is_body c.node_hides-hidden.ensures part c.requires.visible in
     sym (ap (λ ks. with_records d c.args.records.now (flat_map (put_order d) ks)) none)
 
 pub gather_inside-returns-then-shut-clause-kids : goal.gather_inside-returns-then-shut-clause-kids
