@@ -14,7 +14,7 @@ use Rattle.ax_base.specs.Roles.{role, role_of}
 use Rattle.ax_base.specs.NamedRoles.{names_from_content, name_prohibited}
 use Rattle.ax_base.specs.References.{referred_node}
 use Rattle.ax_base.specs.AccessibleNames.{first_label, labelled_text, host_label, content_text, naming_texts, naming_text, title_of, describing_text, is_named_by_title, name_of, description_of}
-use Rattle.ax_names.specs.Pieces.{Phrase, piece_of, joined}
+use Rattle.ax_names.specs.Pieces.{Phrase, piece_of}
 use Rattle.ax_names.specs.declared.naming.Named.{Named}
 use Rattle.ax_names.specs.OwnTexts.{said_or, title_said, described_from}
 use Rattle.ax_names.specs.Sessions.{referred_by, called_by, element_name, is_named_late, element_description, named_by}
@@ -22,10 +22,9 @@ use Rattle.ax_names.proofs.Added.{flat_nil}
 use Rattle.ax_names.proofs.Openings.{take_nil}
 
 -- what the label of a node says, where its id names it
-pub labelled_is : ((a b : Chars) → piece_of (a ++ b) ≡ joined (piece_of a) (piece_of b)) → (d : Document) (text : Chars) (n first label : ℕ) (old new : Phrase) → Some first ≡ target d text → (first == n) ≡ true
-    → Some label ≡ first_label d text → old ≡ piece_of [] → new ≡ joined old (piece_of (referred_node d label)) → new ≡ piece_of (labelled_text d text n)
-labelled_is together d text n first label old new names same labels nothing added =
-    added ∙ ap (λ p. joined p (piece_of (referred_node d label))) nothing ∙ sym (together [] (referred_node d label)) ∙ ap piece_of (sym given)
+pub labelled_is : (d : Document) (text : Chars) (n first label : ℕ) (new : Phrase) → Some first ≡ target d text → (first == n) ≡ true → Some label ≡ first_label d text → new ≡ piece_of (referred_node d label)
+    → new ≡ piece_of (labelled_text d text n)
+labelled_is d text n first label new names same labels added = added ∙ ap piece_of (sym given)
   where
     given : labelled_text d text n ≡ referred_node d label
     given =

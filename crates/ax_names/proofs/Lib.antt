@@ -12,8 +12,8 @@ pub mod Speaking
 mod Above
 pub mod Known
 pub mod Referring
+pub mod Gathered
 mod Firsts
 pub mod Showing
 pub mod Calling
-mod Whole
 pub mod Evenly

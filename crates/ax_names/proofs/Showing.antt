@@ -19,7 +19,6 @@ use Rattle.ax_base.specs.References.{said1}
 use Rattle.ax_base.specs.AccessibleNames.{content_text}
 use Rattle.ax_base.proofs.SaidLaws.{said1-children}
 use Rattle.ax_base.proofs.Places.{depth-level, has_children}
-use Rattle.ax_names.specs.Pieces.{Phrase, piece_of, joined}
 use Rattle.ax_names.specs.OwnTexts.{element_shows}
 use Rattle.ax_names.specs.Sessions.{referred_by}
 use Rattle.ax_names.proofs.Speaking.{element_is}
@@ -32,16 +31,11 @@ falls_below d t n c child =
     let u = t.deeper n c child in
     omega arith
 
--- what is kept of the texts of some nodes, with that of one more
-pub one_more_said : ((a b : Chars) → piece_of (a ++ b) ≡ joined (piece_of a) (piece_of b)) → (text : ℕ → Chars) (k c : ℕ) (cs : List ℕ) (old said new : Phrase) → k < length cs → c ≡ get_or cs k c
-    → old ≡ piece_of (flat_map text (take k cs)) → said ≡ piece_of (text c) → new ≡ joined old said → new ≡ piece_of (flat_map text (take (k + 1) cs))
-one_more_said together text k c cs old said new low is so_far says added =
-    added ∙ (λ i. joined (so_far i) (says i)) ∙ sym (together (flat_map text (take k cs)) (text c)) ∙ ap piece_of (sym given)
-  where
-    given : flat_map text (take (k + 1) cs) ≡ flat_map text (take k cs) ++ text c
-    given =
-        ap (flat_map text) (ap (λ j. take j cs) (add-one k) ∙ take-suc cs k c low ∙ ap (λ x. take k cs ++ x ∷ []) (sym is))
-        ∙ flat_map-append text (take k cs) (c ∷ []) ∙ ap (λ l. flat_map text (take k cs) ++ l) (append-nil (text c))
+-- the texts of some nodes, with that of one more
+pub one_more_text : (text : ℕ → Chars) (k c : ℕ) (cs : List ℕ) → k < length cs → c ≡ get_or cs k c → flat_map text (take (k + 1) cs) ≡ flat_map text (take k cs) ++ text c
+one_more_text text k c cs low is =
+    ap (flat_map text) (ap (λ j. take j cs) (add-one k) ∙ take-suc cs k c low ∙ ap (λ x. take k cs ++ x ∷ []) (sym is))
+    ∙ flat_map-append text (take k cs) (c ∷ []) ∙ ap (λ l. flat_map text (take k cs) ++ l) (append-nil (text c))
 
 -- what an element says whose own references count
 pub shows_is : (referred : Chars) (r : Role) (tag : Chars) (attrs : List Attr) (frame : Rect) (below : Chars) → said_by r referred (Element tag attrs frame) below ≡ element_shows referred r tag attrs below

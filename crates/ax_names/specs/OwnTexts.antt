@@ -1,5 +1,5 @@
 -- What an element says by itself, before and after its children.
-use Rattle.std.specs.Prelude.{ℕ, Bool, not, ◌&&◌, ◌||◌, if◌then◌else◌, List, [], ◌∷◌, codes}
+use Rattle.std.specs.Prelude.{ℕ, Bool, not, ◌&&◌, ◌||◌, if◌then◌else◌, Option, Some, None, List, [], ◌∷◌, codes}
 use Rattle.ax_base.specs.declared.attrs.Attr.{Attr}
 use Rattle.ax_base.specs.declared.body.Body.{Body}
 use Rattle.ax_base.specs.declared.role.Role.{Role}
@@ -14,6 +14,10 @@ use Rattle.ax_names.specs.declared.naming.Named.{Named}
 -- the first of two texts where it is not blank, and else the second
 abbrev pub said_or : Chars → Chars → Chars
 said_or first second = if is_blank first then second else first
+
+-- what is gathered of a text, where that is not blank
+abbrev pub unless_blank : {G : Type 0} → (Chars → G) → Chars → Option G
+unless_blank of t = if is_blank t then None else Some (of t)
 
 -- what an element of a role says before its children: the first that is not blank of its `aria-label` and the text embedded in it
 abbrev pub own_text : Role → Chars → List Attr → Chars

@@ -10,16 +10,22 @@ use Rattle.ax_base.specs.NamedRoles.{name_prohibited}
 use Rattle.ax_base.specs.References.{referred_node, referred_text}
 use Rattle.ax_base.specs.AccessibleNames.{host_label_of, content_text}
 use Rattle.ax_names.specs.declared.session.Names.{Names}
+use Rattle.ax_names.specs.declared.session.Sayings.{Sayings}
+use Rattle.ax_names.specs.Pieces.{piece_of}
 use Rattle.ax_names.specs.Memos.{Keeps}
 use Rattle.ax_names.specs.Targets.{AreTargetsOf}
 use Rattle.ax_names.specs.declared.naming.Named.{Named}
 use Rattle.ax_names.specs.OwnTexts.{said_or, title_said, element_called, named_from}
 
 -- the look-ups, if they were made, are those of a document, and what is kept is what its nodes say
-pub record AreNamesOf (d : Document) (s : Names) : Type 0 where
+pub record AreSayingsOf {G : Type 0} (of : Chars → G) (d : Document) (s : Sayings G) : Type 0 where
   pub targets : IfSome s.targets (AreTargetsOf d)
-  pub referred : Keeps (referred_node d) s.referred
-  pub contents : Keeps (content_text d) s.contents
+  pub referred : Keeps of (referred_node d) s.referred
+  pub contents : Keeps of (content_text d) s.contents
+
+-- the same of what is looked up and kept while names are made
+abbrev pub AreNamesOf : Document → Names → Type 0
+AreNamesOf d s = AreSayingsOf piece_of d s.sayings
 
 -- what the first eight tokens of a text refer to
 abbrev pub all_referred : Document → Chars → List Chars

@@ -1,9 +1,12 @@
-//! Elements that stand in blocks of their own.
-ghost use Rattle.std.specs.Prelude.{◌≡◌, bytes_eq};
+//! Elements that stand in blocks of their own, and the spaces round what these say.
+ghost use Rattle.std.specs.Prelude.{◌≡◌, IfOk, bytes_eq};
 ghost use Rattle.std.specs.List.{list_any};
-ghost use Rattle.ax_base.specs.Said.{is_block, is_block_element, block_tags};
+ghost use Rattle.ax_base.specs.Characters.{Chars};
+ghost use Rattle.ax_base.specs.Said.{spaced, is_block, is_block_element, block_tags};
 
-use ax_base::{Attrs, Body};
+use crate::gather::Gather;
+use ax_base::{Attrs, Body, NoMemory};
+use std::alloc::Global;
 
 /// Whether a node stands in a block of its own; a text does not.
 pub fn is_block(node: &Body) -> bool
@@ -51,4 +54,15 @@ fn has_block_tag(tag: &str) -> bool
             | "th"
             | "br"
     )
+}
+
+/// What is gathered of a text, between two spaces where it stands apart.
+pub(crate) fn with_spaces<G: Gather>(alloc: Global, apart: bool, said: G) -> Result<G, NoMemory>
+    ensures { IfOk result (λ g. (t : Chars) → said ≡ G.of t → g ≡ G.of (spaced apart t)) }
+{
+    if apart {
+        said.into_spaced(alloc)
+    } else {
+        Ok(said)
+    }
 }

@@ -137,7 +137,13 @@ fn element_named<L: Ledger>(
     ensures value { IfOk result (λ named. named ≡ named_by dom.now id role tag.now attrs.now) }
     ensures names { OnOk result (AreNamesOf dom.now names.new) }
 {
-    let referred = referred_by(alloc, dom, names, attrs.text("aria-labelledby"), steps)?;
+    let referred: Piece = referred_by(
+        alloc,
+        dom,
+        &mut names.sayings,
+        attrs.text("aria-labelledby"),
+        steps,
+    )?;
     let nothing = Piece::empty(alloc);
     if is_settled(role, attrs, &referred) {
         return element_name(alloc, role, attrs, &referred, &nothing, &nothing);
@@ -146,7 +152,7 @@ fn element_named<L: Ledger>(
     if !names_from_content(role) {
         return element_name(alloc, role, attrs, &referred, &label, &nothing);
     }
-    let below = content(alloc, dom, names, id, steps)?;
+    let below = content(alloc, dom, &mut names.sayings, id, steps)?;
     element_name(alloc, role, attrs, &referred, &label, &below)
 }
 
@@ -172,7 +178,13 @@ fn element_described<L: Ledger>(
     ensures value { IfOk result (λ t. t ≡ described_from attrs.now (referred_by dom.now (text_in (codes "aria-describedby") attrs.now)) by_title) }
     ensures names { OnOk result (AreNamesOf dom.now names.new) }
 {
-    let referred = referred_by(alloc, dom, names, attrs.text("aria-describedby"), steps)?;
+    let referred: Piece = referred_by(
+        alloc,
+        dom,
+        &mut names.sayings,
+        attrs.text("aria-describedby"),
+        steps,
+    )?;
     element_description(alloc, attrs, referred, by_title)
 }
 
@@ -215,22 +227,21 @@ fn labelled<L: Ledger>(
     ensures value { IfOk result (λ p. p ≡ piece_of (labelled_text dom.now text.now id)) }
     ensures names { OnOk result (AreNamesOf dom.now names.new) }
 {
-    pieces_tell();
     let mut said = Piece::empty(alloc);
     if text.is_empty() {
         return Ok(said);
     }
-    let found = names.first(alloc, dom, text, steps)?;
+    let found = names.sayings.first(alloc, dom, text, steps)?;
     let Some(first) = found else {
         return Ok(said);
     };
     if first != id {
         return Ok(said);
     }
-    let labels = names.label(alloc, dom, text, steps)?;
+    let labels = names.sayings.label(alloc, dom, text, steps)?;
     let Some(label) = labels else {
         return Ok(said);
     };
-    push_node(alloc, dom, names, label, &mut said, steps)?;
+    push_node(alloc, dom, &mut names.sayings, label, &mut said, steps)?;
     Ok(said)
 }

@@ -11,6 +11,7 @@ mod called;
 mod calls;
 mod embedded;
 mod front;
+mod gather;
 mod hidden;
 mod memo;
 mod naming;

@@ -1,45 +1,44 @@
-//! Pieces that are kept by node.
+//! What is gathered of texts, kept by node.
 ghost use Rattle.std.specs.Prelude.{◌≡◌, ℕ, OnOk, None, Some, IfSome, option_copied, nat_eq, if◌then◌else◌};
 ghost use Rattle.ax_base.specs.Characters.{Chars};
-ghost use Rattle.ax_names.specs.Pieces.{piece_of};
 ghost use Rattle.ax_names.specs.Memos.{kept_at, Keeps};
 
-use crate::pieces::Piece;
+use crate::gather::Gather;
 use ax_base::{NoMemory, ObjId};
 use std::alloc::Global;
 use std::collections::HashMap;
 
-/// What is kept of the texts of nodes that were asked for, by their ids.
+/// What is gathered of the texts of nodes that were asked for, by their ids.
 #[derive(Drop)]
-pub struct Memo {
-    pieces: HashMap<u32, Piece>,
+pub struct Memo<G> {
+    gathered: HashMap<u32, G>,
 }
 
-impl Memo {
+impl<G: Gather> Memo<G> {
     /// Nothing is kept yet. It takes no memory.
-    pub fn new(alloc: Global) -> Memo
+    pub fn new(alloc: Global) -> Memo<G>
         ensures nothing { (n : ℕ) → kept_at result n ≡ None }
-        ensures sound { (text : ℕ → Chars) → Keeps text result }
+        ensures sound { (text : ℕ → Chars) → Keeps G.of text result }
     {
         Memo {
-            pieces: HashMap::new(alloc),
+            gathered: HashMap::new(alloc),
         }
     }
 
-    /// What is kept of the text of a node, if it was asked for before.
-    pub fn get(&self, id: ObjId) -> Option<&Piece>
+    /// What is gathered of the text of a node, if it was asked for before.
+    pub fn get(&self, id: ObjId) -> Option<&G>
         ensures value { option_copied result ≡ kept_at self.now id }
-        ensures sound { IfSome result (λ p. (text : ℕ → Chars) → Keeps text self.now → p.now ≡ piece_of (text id)) }
+        ensures sound { IfSome result (λ p. (text : ℕ → Chars) → Keeps G.of text self.now → p.now ≡ G.of (text id)) }
     {
-        self.pieces.get(&id.0)
+        self.gathered.get(&id.0)
     }
 
-    /// Keeps what is kept of the text of a node.
-    pub fn keep(&mut self, id: ObjId, piece: Piece) -> Result<(), NoMemory>
-        ensures value { OnOk result ((n : ℕ) → kept_at self.new n ≡ (if nat_eq id n then Some piece else kept_at self.old n)) }
-        ensures sound { OnOk result ((text : ℕ → Chars) → Keeps text self.old → piece ≡ piece_of (text id) → Keeps text self.new) }
+    /// Keeps what is gathered of the text of a node.
+    pub fn keep(&mut self, id: ObjId, said: G) -> Result<(), NoMemory>
+        ensures value { OnOk result ((n : ℕ) → kept_at self.new n ≡ (if nat_eq id n then Some said else kept_at self.old n)) }
+        ensures sound { OnOk result ((text : ℕ → Chars) → Keeps G.of text self.old → said ≡ G.of (text id) → Keeps G.of text self.new) }
     {
-        self.pieces.insert(id.0, piece)?;
+        self.gathered.insert(id.0, said)?;
         Ok(())
     }
 }

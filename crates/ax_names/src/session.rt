@@ -3,22 +3,21 @@ ghost use Rattle.std.specs.Prelude.{◌≡◌, IfOk, OnOk};
 ghost use Rattle.ax_base.specs.Document.{Document, target};
 ghost use Rattle.ax_base.specs.AccessibleNames.{first_label};
 
+use crate::gather::Gather;
 use crate::memo::Memo;
+use crate::pieces::Piece;
 use crate::targets::Targets;
 use ax_base::{NoMemory, ObjId, Steps};
 use ax_dom::Dom;
 use std::alloc::Global;
 use std::sync::ledger::Ledger;
 
-/// What is looked up and kept while the names of one document are made: which elements ids name, what nodes say that were
-/// referred to, and what the children say of nodes that are named from content.
+/// What is looked up and kept while the names of one document are made.
 ///
 /// Where a call has no memory left, it is of no more use.
 #[derive(Drop)]
 pub struct Names {
-    pub(crate) targets: Option<Targets>,
-    pub(crate) referred: Memo,
-    pub(crate) contents: Memo,
+    pub(crate) sayings: Sayings<Piece>,
 }
 
 impl Names {
@@ -29,6 +28,30 @@ impl Names {
         ensures { (d : Document) → AreNamesOf d result }
     {
         Names {
+            sayings: Sayings::new(alloc),
+        }
+    }
+}
+
+/// What is looked up and kept while the nodes of one document say what they say: which elements ids name, what nodes say that were
+/// referred to, and what the children say of nodes that are named from content.
+///
+/// Where a call has no memory left, it is of no more use.
+#[derive(Drop)]
+pub struct Sayings<G> {
+    pub(crate) targets: Option<Targets>,
+    pub(crate) referred: Memo<G>,
+    pub(crate) contents: Memo<G>,
+}
+
+impl<G: Gather> Sayings<G> {
+    ghost use Rattle.ax_names.specs.Sessions.{AreSayingsOf};
+
+    /// Nothing is looked up or kept yet. It takes no memory.
+    pub fn new(alloc: Global) -> Sayings<G>
+        ensures { (d : Document) → AreSayingsOf G.of d result }
+    {
+        Sayings {
             targets: None,
             referred: Memo::new(alloc),
             contents: Memo::new(alloc),
@@ -43,9 +66,9 @@ impl Names {
         id: &str,
         steps: &mut Steps<L>,
     ) -> Result<Option<ObjId>, NoMemory>
-        requires { AreNamesOf dom.now self.old }
+        requires { AreSayingsOf G.of dom.now self.old }
         ensures value { IfOk result (λ found. found ≡ target dom.now id.now) }
-        ensures names { OnOk result (AreNamesOf dom.now self.new) }
+        ensures sayings { OnOk result (AreSayingsOf G.of dom.now self.new) }
     {
         if let Some(targets) = &self.targets {
             return Ok(targets.first(id));
@@ -64,9 +87,9 @@ impl Names {
         id: &str,
         steps: &mut Steps<L>,
     ) -> Result<Option<ObjId>, NoMemory>
-        requires { AreNamesOf dom.now self.old }
+        requires { AreSayingsOf G.of dom.now self.old }
         ensures value { IfOk result (λ found. found ≡ first_label dom.now id.now) }
-        ensures names { OnOk result (AreNamesOf dom.now self.new) }
+        ensures sayings { OnOk result (AreSayingsOf G.of dom.now self.new) }
     {
         if let Some(targets) = &self.targets {
             return Ok(targets.label(id));

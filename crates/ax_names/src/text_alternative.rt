@@ -2,13 +2,13 @@
 ghost use Rattle.std.specs.Prelude.{◌≡◌, IfOk};
 ghost use Rattle.ax_base.specs.Characters.{Chars};
 ghost use Rattle.ax_base.specs.Said.{said_by};
-ghost use Rattle.ax_names.specs.OwnTexts.{element_shows, said_as_child};
+ghost use Rattle.ax_names.specs.OwnTexts.{said_or, own_text, title_said, unless_blank, element_shows, said_as_child};
 ghost use Rattle.ax_names.specs.Pieces.{piece_of};
 
-use crate::blocks::is_block;
+use crate::blocks::{is_block, with_spaces};
 use crate::embedded::{own_text, title_said};
+use crate::gather::Gather;
 use crate::pieces::Piece;
-use crate::pieces_tell;
 use ax_base::{Attrs, Body, NoMemory, Role, is_blank};
 use std::alloc::Global;
 
@@ -24,15 +24,11 @@ pub fn said_as_child(
 ) -> Result<Piece, NoMemory>
     ensures { IfOk result (λ p. (r b : Chars) → referred ≡ piece_of r → below ≡ piece_of b → p ≡ piece_of (said_as_child silent role r node.now b)) }
 {
-    pieces_tell();
     if silent {
         return Ok(Piece::empty(alloc));
     }
-    let mut said = said_by(alloc, role, referred, node, below)?;
-    if is_block(node) {
-        said.put_between_spaces();
-    }
-    Ok(said)
+    let said = said_by(alloc, role, referred, node, below)?;
+    with_spaces(alloc, is_block(node), said)
 }
 
 /// What is kept of what a node of a role says, from what its references say and from what its children say.
@@ -65,16 +61,39 @@ fn element_says(
 ) -> Result<Piece, NoMemory>
     ensures { IfOk result (λ p. (r b : Chars) → referred ≡ piece_of r → below ≡ piece_of b → p ≡ piece_of (element_shows r role tag.now attrs.now b)) }
 {
-    pieces_tell();
+    if let Some(said) = said_before(alloc, role, referred, tag, attrs)? {
+        return Ok(said);
+    }
+    said_after(alloc, below, attrs)
+}
+
+/// What is gathered of what an element of a role says before its children are asked: what its references say, else its
+/// `aria-label`, else the text embedded in it. It is nothing where none of them says anything but white space.
+pub(crate) fn said_before<G: Gather>(
+    alloc: Global,
+    role: Role,
+    referred: G,
+    tag: &str,
+    attrs: &Attrs,
+) -> Result<Option<G>, NoMemory>
+    ensures { IfOk result (λ said. (r : Chars) → referred ≡ G.of r → said ≡ unless_blank G.of (said_or r (own_text role tag.now attrs.now))) }
+{
     if !referred.is_blank() {
-        return Ok(referred);
+        return Ok(Some(referred));
     }
     let own = own_text(role, tag, attrs);
-    if !is_blank(own) {
-        return Piece::of(alloc, own);
+    if is_blank(own) {
+        return Ok(None);
     }
+    Ok(Some(G::from_str(alloc, own)?))
+}
+
+/// What is gathered of what an element says once its children are asked: what they say, else its `title`.
+pub(crate) fn said_after<G: Gather>(alloc: Global, below: G, attrs: &Attrs) -> Result<G, NoMemory>
+    ensures { IfOk result (λ said. (b : Chars) → below ≡ G.of b → said ≡ G.of (said_or b (title_said attrs.now))) }
+{
     if !below.is_blank() {
         return Ok(below);
     }
-    Piece::of(alloc, title_said(attrs))
+    G::from_str(alloc, title_said(attrs))
 }

@@ -1,4 +1,4 @@
-use Rattle.std.proofs.Common.{◌≡◌, ◌∙◌, true, rules, sym}
+use Rattle.std.proofs.Common.{◌≡◌, ◌∙◌, [], true, rules, sym}
 use Rattle.std.specs.Prelude.{◌==◌}
 use Rattle.ax_names.proofs.Known.{label_known}
 use Rattle.ax_names.proofs.Calling.{labelled_is}
@@ -10,5 +10,5 @@ push_node-requires-clause-known g c = label_known c.args.dom.now c.args.text.now
 pub returns-clause-value : goal.returns-clause-value
 returns-clause-value g c =
     let same : (c.in-Some.first == c.args.id) ≡ true = search rules in
-    labelled_is c.pieces_tell.ensures.together c.args.dom.now c.args.text.now c.args.id c.in-Some.first c.in-Some-labels.label c.empty-said.result c.push_node.new.into (sym c.in-Some.is ∙ c.in_ok-found.ensures.value) same
-    (sym c.in-Some-labels.is ∙ c.in_ok-labels.ensures.value) c.empty-said.ensures c.in_ok-push_node.ensures.value
+    labelled_is c.args.dom.now c.args.text.now c.args.id c.in-Some.first c.in-Some-labels.label c.push_node.new.into (sym c.in-Some.is ∙ c.in_ok-found.ensures.value) same (sym c.in-Some-labels.is ∙ c.in_ok-labels.ensures.value)
+    (c.in_ok-push_node.ensures.value [] c.empty-said.ensures)

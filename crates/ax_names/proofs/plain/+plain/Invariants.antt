@@ -2,7 +2,6 @@ use Rattle.std.proofs.Common.{◌≡◌, ◌+◌, ◌-◌, ◌*◌, take}
 use Rattle.std.specs.List.{flat_map}
 use Rattle.ax_base.specs.Document.{depth}
 use Rattle.ax_base.specs.Said.{child_text}
-use Rattle.ax_names.specs.Pieces.{piece_of}
 use Rattle.ax_names.specs.OwnTexts.{hiding, said_part}
 use Rattle.ax_names.proofs.plain.+plain.Given as goal
 
@@ -18,6 +17,6 @@ decreases-plain_cell g l = 4 * (65 - depth l.dom.now l.cell.now.id) + 2
 abbrev pub decreases-plain_child : goal.decreases-plain_child
 decreases-plain_child g l = 4 * (65 - depth l.dom.now l.child) + 3
 
--- what is kept of what the children so far say
+-- what is gathered of what the children so far say
 abbrev pub invariant-plain_children-loop-child : goal.invariant-plain_children-loop-child
-invariant-plain_children-loop-child g l = l.joined ≡ piece_of (flat_map (child_text l.dom (hiding l.whole) (said_part l.whole l.dom)) (take l.child-index l.child-items))
+invariant-plain_children-loop-child g l = l.joined ≡ g.G.Gather.of (flat_map (child_text l.dom (hiding l.whole) (said_part l.whole l.dom)) (take l.child-index l.child-items))

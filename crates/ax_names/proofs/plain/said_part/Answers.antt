@@ -3,7 +3,6 @@ use Rattle.std.proofs.lemmas.Result.{IfOk-weaker}
 use Rattle.ax_base.specs.Document.{has}
 use Rattle.ax_names.specs.OwnTexts.{said_part}
 use Rattle.ax_dom.specs.declared.cell.Cell.{Cell}
-use Rattle.ax_names.specs.Pieces.{piece_of}
 use Rattle.ax_names.proofs.Speaking.{cell_is, own_cell}
 use Rattle.ax_names.proofs.plain.said_part.Goals as goal
 
@@ -17,4 +16,4 @@ pub returns : goal.returns
 returns g c =
     let d = c.args.dom.now in
     let cell = cell_is d c.args.id c.in-Some.cell.now c.in-Some.ensures.value in
-    IfOk-weaker c.plain_cell.result _ _ (λ p e. e ∙ ap (λ (x : Cell). piece_of (said_part c.args.whole d x.id)) cell) c.plain_cell.ensures
+    IfOk-weaker c.plain_cell.result _ _ (λ p e. e ∙ ap (λ (x : Cell). g.G.Gather.of (said_part c.args.whole d x.id)) cell) c.plain_cell.ensures

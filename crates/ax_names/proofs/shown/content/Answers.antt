@@ -5,12 +5,12 @@ use Rattle.ax_names.proofs.shown.content.Goals as goal
 
 pub returns-in-Some-clause-value : goal.returns-in-Some-clause-value
 returns-in-Some-clause-value g c =
-    let kept = c.in-Some.ensures.sound (content_text c.args.dom.now) c.requires.names.contents in
+    let kept = c.in-Some.ensures.sound (content_text c.args.dom.now) c.requires.sayings.contents in
     IfOk-weaker c.copy.result _ _ (λ p e. e ∙ kept) c.copy.ensures
 
-pub returns-clause-names : goal.returns-clause-names
-returns-clause-names g c =
-    let names = c.in_ok-said.ensures.names in
+pub returns-clause-sayings : goal.returns-clause-sayings
+returns-clause-sayings g c =
+    let names = c.in_ok-said.ensures.sayings in
     record {
       targets = names.targets;
       referred = names.referred;

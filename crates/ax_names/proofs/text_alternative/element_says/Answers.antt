@@ -1,19 +1,16 @@
-use Rattle.std.proofs.Common.{◌∙◌, true, sym, ap}
 use Rattle.std.proofs.lemmas.Result.{IfOk-weaker}
-use Rattle.ax_names.specs.OwnTexts.{said_or, title_said}
+use Rattle.ax_names.specs.OwnTexts.{own_text, title_said, said_or}
 use Rattle.ax_names.specs.Pieces.{piece_of}
-use Rattle.ax_names.proofs.Turns.{tells_blank, second_counts, last_counts}
+use Rattle.ax_names.proofs.Turns.{told_counts, third_counts}
 use Rattle.ax_names.proofs.text_alternative.element_says.Goals as goal
 
-pub returns-then-not-is_blank-2 : goal.returns-then-not-is_blank-2
-returns-then-not-is_blank-2 c =
-    IfOk-weaker c.of.result _ _ (λ p e r b refers below.
-    let none = tells_blank c.pieces_tell.ensures.blank c.args.referred r refers c.is_blank.result true c.is_blank.ensures c.if-not-is_blank.false in
-    e ∙ ap piece_of (second_counts r _ (said_or b (title_said c.args.attrs.now)) c.own_text-own.result.now c.own_text-own.ensures none (sym c.is_blank-2.ensures ∙ c.if-not-is_blank-2.true))) c.of.ensures
+pub returns-in-Some : goal.returns-in-Some
+returns-in-Some c r b refers inside =
+    let attrs = c.args.attrs.now in
+    told_counts piece_of r (own_text c.args.role c.args.tag.now attrs) (said_or b (title_said attrs)) _ c.in-Some.said c.in-Some.is (c.in_ok-said.ensures r refers)
 
 pub returns : goal.returns
 returns c =
-    IfOk-weaker c.of-2.result _ _ (λ p e r b refers below.
-    let none = tells_blank c.pieces_tell.ensures.blank c.args.referred r refers c.is_blank.result true c.is_blank.ensures c.if-not-is_blank.false in
-    let nor = tells_blank c.pieces_tell.ensures.blank c.args.below b below c.is_blank-3.result true c.is_blank-3.ensures c.if-not-is_blank-3.false in
-    e ∙ ap piece_of (last_counts r _ b _ c.own_text-own.result.now c.title_said.result.now c.own_text-own.ensures c.title_said.ensures none (sym c.is_blank-2.ensures ∙ c.if-not-is_blank-2.false) nor)) c.of-2.ensures
+    let attrs = c.args.attrs.now in
+    IfOk-weaker c.said_after.result _ _ (λ p e r b refers inside.
+    third_counts piece_of r (own_text c.args.role c.args.tag.now attrs) (said_or b (title_said attrs)) _ p c.in_default.is (c.in_ok-said.ensures r refers) (e b inside)) c.said_after.ensures

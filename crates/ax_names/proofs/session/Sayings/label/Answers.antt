@@ -1,4 +1,4 @@
-use Rattle.ax_names.proofs.session.Names.label.Goals as goal
+use Rattle.ax_names.proofs.session.Sayings.label.Goals as goal
 
 pub returns-in-Some-clause-value : goal.returns-in-Some-clause-value
 returns-in-Some-clause-value g c = c.label.ensures c.args.dom.now (rw c.in-Some.is at c.requires.targets)
@@ -6,5 +6,5 @@ returns-in-Some-clause-value g c = c.label.ensures c.args.dom.now (rw c.in-Some.
 pub returns-clause-value : goal.returns-clause-value
 returns-clause-value g c = c.label-found.ensures c.args.dom.now c.in_ok-targets.ensures
 
-pub returns-clause-names : goal.returns-clause-names
-returns-clause-names g c = record { targets = c.in_ok-targets.ensures; referred = c.requires.referred; contents = c.requires.contents }
+pub returns-clause-sayings : goal.returns-clause-sayings
+returns-clause-sayings g c = record { targets = c.in_ok-targets.ensures; referred = c.requires.referred; contents = c.requires.contents }

@@ -1,6 +1,0 @@
-use Rattle.ax_base.specs.References.{referred_node}
-use Rattle.ax_base.specs.AccessibleNames.{content_text}
-use Rattle.ax_names.proofs.session.Names.new.Goals as goal
-
-pub returns : goal.returns
-returns c d = record { targets = tt; referred = c.new.ensures.sound (referred_node d); contents = c.new-2.ensures.sound (content_text d) }
