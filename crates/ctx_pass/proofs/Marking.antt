@@ -1,39 +1,14 @@
 -- Marks of nodes.
-use Rattle.std.proofs.Common.{◌≡◌, inl, inr, ℕ, ◌+◌, ◌<◌, ◌||◌, List, [], ◌∷◌, length, take, get_or, Bool, true, false, cond, Option, Some, refl, sym, ap, subst, ◌∙◌}
-use Rattle.std.specs.Prelude.{nat_eq, Result, Ok, Err, OnOk, OnErr}
+use Rattle.std.proofs.Common.{◌≡◌, inl, inr, ℕ, ◌||◌, List, [], ◌∷◌, Bool, true, false, cond, Option, Some, refl, sym, ap, subst, ◌∙◌}
+use Rattle.std.specs.Prelude.{Result, Ok, Err, OnOk, OnErr}
 use Rattle.std.specs.Ordering.{nat_cmp}
 use Rattle.std.specs.Map.{lookup}
 use Rattle.std.specs.Set.{remove_key}
 use Rattle.std.specs.BTreeMap.{is_at, insert_entry}
 use Rattle.std.specs.BTreeSet.{insert_key}
-use Rattle.std.proofs.lemmas.List.Folds.{list_any_more}
 use Rattle.std.proofs.lemmas.Bool.{or_parts}
-use Rattle.ax_base.proofs.Lookups.{finds, finds_is, finds_tells, found_is, lookup-insert_entry, list_any-insert_key}
-use Rattle.ax_dom.specs.Among.{is_in}
-use Rattle.ctx_pass.specs.Passes.{is_marked, AllAreMarked}
-
-or_true : (b : Bool) → (b || true) ≡ true
-or_true true = refl
-or_true false = refl
-
--- one more node is marked
-pub one_marked : (ns marks new : List ℕ) (i x : ℕ) → i < length ns → x ≡ get_or ns i x → AllAreMarked marks (take i ns) → new ≡ insert_key nat_cmp marks x → AllAreMarked new (take (i + 1) ns)
-one_marked ns marks new i x low is so_far puts n on = ap (λ l. is_marked l n) puts ∙ sym (list_any-insert_key n x marks) ∙ go (is_in (take i ns) n) refl
-  where
-    more : (is_in (take i ns) n || nat_eq n x) ≡ true
-    more = ap (λ y. is_in (take i ns) n || nat_eq n y) is ∙ sym (list_any_more (nat_eq n) ns i x low) ∙ on
-
-    go : (b : Bool) → is_in (take i ns) n ≡ b → (finds n x || is_marked marks n) ≡ true
-    go true was = ap (λ b. finds n x || b) (so_far n was) ∙ or_true (finds n x)
-    go false off = ap (λ b. b || is_marked marks n) (finds_is n x ∙ ap (λ b. b || nat_eq n x) (sym off) ∙ more)
-
--- a node that has no mark is none of those that are marked
-pub not_marked : (ns marks : List ℕ) (n : ℕ) → AllAreMarked marks ns → false ≡ is_marked marks n → false ≡ is_in ns n
-not_marked ns marks n marked off = go (is_in ns n) refl
-  where
-    go : (b : Bool) → is_in ns n ≡ b → false ≡ is_in ns n
-    go true on = off ∙ marked n on ∙ sym on
-    go false is = sym is
+use Rattle.ax_base.proofs.Lookups.{finds, finds_tells, found_is, lookup-insert_entry, list_any-insert_key}
+use Rattle.ctx_pass.specs.Marks.{is_marked}
 
 -- whether another has a mark does not change where one loses its own
 others_marked : (q k : ℕ) (ks : List ℕ) → finds q k ≡ false → is_marked (remove_key (is_at (nat_cmp k)) ks) q ≡ is_marked ks q

@@ -1,17 +1,14 @@
 //! The contexts of the nodes of a document.
-ghost use Rattle.std.specs.Prelude.{◌≡◌, ◌≤◌, ◌+◌, ◌*◌, ◌||◌, ℕ, true, false, OnOk, IfOk, Some, None};
-ghost use Rattle.std.specs.List.Sorted.{IsStrictlyIncreasing};
-ghost use Rattle.ax_base.specs.Document.{Document, has, order};
-ghost use Rattle.ax_base.specs.Trees.{IsTree};
+ghost use Rattle.std.specs.Prelude.{◌≡◌, ◌≤◌, ◌+◌, ◌||◌, ℕ, true, false, [], length, IfOk};
+ghost use Rattle.ax_base.specs.Document.{Document, has};
 ghost use Rattle.ax_base.specs.Context.{is_out};
-ghost use Rattle.ax_dom.specs.Among.{is_in, IsClosedUp};
+ghost use Rattle.ax_dom.specs.Among.{is_in};
+ghost use Rattle.node_order.specs.Orders.{IsFromAbove};
 ghost use Rattle.ctx_pass.specs.Contexts.{context_of, IsContextKept, AreContextsOf};
-ghost use Rattle.ctx_pass.specs.Passes.{holds, count, HoldsUp};
 
-use crate::among::{Renewed, mark_all, unmark_all};
 use crate::kept::KeptContexts;
-use crate::renewing::{OUTSIDE, renew_node};
-use ax_base::{IdSet, Ids, Live, NoMemory, ObjId, Steps};
+use crate::renewing::renew_each;
+use ax_base::{Live, NoMemory, ObjId, Steps};
 use ax_dom::Dom;
 use std::alloc::Global;
 use std::marker::Model;
@@ -40,61 +37,45 @@ impl Context {
 /// The contexts of the nodes of a document, by their ids. Those of nodes that are gone may be among them.
 #[derive(Drop)]
 pub struct Contexts {
-    alloc: Global,
     kept: KeptContexts,
-    marks: IdSet,
 }
 
 impl Model for Contexts {
     ghost use Rattle.std.specs.Prelude.{List, ℕ};
-    ghost use Rattle.ctx_pass.specs.declared.contexts.Context.{Context};
+    ghost use Rattle.ctx_pass.specs.declared.standing.Standing.{Standing};
 
-    ghost Value = { List (ℕ × Context) };
+    ghost Value = { List (ℕ × Standing) };
 
     ghost view = { λ a. a.kept };
 }
 
 impl Contexts {
-    /// The contexts of a document. It reads each node twice.
-    pub fn new<L: Ledger>(
-        alloc: Global,
-        dom: &Dom,
-        steps: &mut Steps<L>,
-    ) -> Result<Contexts, NoMemory>
-        ensures value { IfOk result (λ contexts. AreContextsOf dom.now contexts) }
-        ensures counted { steps.new ≤ steps.old + 2 * count None (order dom.now) }
+    /// No contexts. It takes no memory.
+    pub fn new(alloc: Global) -> Contexts
+        ensures { result ≡ [] }
     {
-        dom.keeps_tree();
-        let mut kept = KeptContexts::new(alloc);
-        let marks = IdSet::new(alloc);
-        renew_all(alloc, dom, &Renewed::all(&marks), &mut kept, steps)?;
-        Ok(Contexts { alloc, kept, marks })
+        Contexts {
+            kept: KeptContexts::new(alloc),
+        }
     }
 
-    /// The contexts of a document, where those of all nodes outside of `reach` are kept already. It reads each node of
-    /// `reach` twice. At an error what was kept is given up.
+    /// The contexts of a document, where those of all nodes but `nodes` are kept already. It reads each of `nodes` once. At
+    /// an error what was kept is given up.
     pub fn renew<L: Ledger>(
         self,
         dom: &Dom,
-        reach: &Ids,
+        nodes: &[ObjId],
         steps: &mut Steps<L>,
     ) -> Result<Contexts, NoMemory>
-        requires rising { IsStrictlyIncreasing reach.now }
-        requires closed { IsClosedUp dom.now reach.now }
-        requires others { (n : ℕ) → has dom.now n ≡ true → is_in reach.now n ≡ false → IsContextKept dom.now self n }
+        requires order { IsFromAbove dom.now nodes.now }
+        requires others { (n : ℕ) → has dom.now n ≡ true → is_in nodes.now n ≡ false → IsContextKept dom.now self n }
         ensures value { IfOk result (λ contexts. AreContextsOf dom.now contexts) }
-        ensures counted { steps.new ≤ steps.old + 2 * count (Some reach.now) (order dom.now) }
+        ensures counted { steps.new ≤ steps.old + length nodes.now }
     {
         dom.keeps_tree();
-        let Contexts {
-            alloc,
-            mut kept,
-            mut marks,
-        } = self;
-        mark_all(&mut marks, reach.as_slice())?;
-        renew_all(alloc, dom, &Renewed::only(reach, &marks), &mut kept, steps)?;
-        unmark_all(&mut marks, reach.as_slice());
-        Ok(Contexts { alloc, kept, marks })
+        let Contexts { mut kept } = self;
+        renew_each(dom, nodes, &mut kept, steps)?;
+        Ok(Contexts { kept })
     }
 
     /// The context of a node of the document.
@@ -110,26 +91,4 @@ impl Contexts {
     {
         self.kept.is_out(id)
     }
-}
-
-/// Renews the contexts of some nodes, or of all.
-fn renew_all<L: Ledger>(
-    alloc: Global,
-    dom: &Dom,
-    reach: &Renewed,
-    kept: &mut KeptContexts,
-    steps: &mut Steps<L>,
-) -> Result<(), NoMemory>
-    requires tree { IsTree dom.now }
-    requires closed { HoldsUp dom.now reach.now }
-    requires others { (n : ℕ) → has dom.now n ≡ true → holds reach.now n ≡ false → IsContextKept dom.now kept.old n }
-    ensures value { OnOk result (AreContextsOf dom.now kept.new) }
-    ensures counted { steps.new ≤ steps.old + 2 * count reach.now (order dom.now) }
-{
-    let root = ObjId(1);
-    if !reach.has(root) {
-        return Ok(());
-    }
-    renew_node(alloc, dom, reach, kept, root, OUTSIDE, steps)?;
-    Ok(())
 }

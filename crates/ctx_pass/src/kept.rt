@@ -1,31 +1,31 @@
 //! Contexts by node.
-ghost use Rattle.std.specs.Prelude.{◌≡◌, true, [], OnOk};
+ghost use Rattle.std.specs.Prelude.{◌≡◌, true, [], OnOk, Some};
 ghost use Rattle.std.specs.Ordering.{nat_cmp};
 ghost use Rattle.std.specs.BTreeMap.{insert_entry};
 ghost use Rattle.ax_base.specs.Document.{Document, has};
 ghost use Rattle.ax_base.specs.Context.{is_out};
-ghost use Rattle.ctx_pass.specs.Contexts.{context_of, AreContextsOf};
+ghost use Rattle.ctx_pass.specs.Contexts.{context_of, handed_on, AreContextsOf};
 
 use crate::contexts::Context;
-use crate::renewing::OUTSIDE;
+use crate::standing::{OUTSIDE, Standing};
 use ax_base::{IdMap, IdSet, NoMemory, ObjId};
 use std::alloc::Global;
 use std::marker::Model;
 
-/// Contexts by node. Each node that is out by what is kept of it has a mark, so that of most of the others one look tells that
-/// they are not.
+/// Contexts by node, with what the children of each take over. Each node that is out by what is kept of it has a mark, so that
+/// of most of the others one look tells that they are not.
 #[derive(Drop)]
 pub(crate) struct KeptContexts {
-    by_node: IdMap<Context>,
+    by_node: IdMap<Standing>,
     out: IdSet,
 }
 
 impl Model for KeptContexts {
     ghost use Rattle.std.specs.Prelude.{List, ℕ};
-    ghost use Rattle.ctx_pass.specs.declared.contexts.Context.{Context};
+    ghost use Rattle.ctx_pass.specs.declared.standing.Standing.{Standing};
     ghost use Rattle.ctx_pass.specs.Contexts.{OnlyMarkedAreOut};
 
-    ghost Value = { List (ℕ × Context) };
+    ghost Value = { List (ℕ × Standing) };
 
     ghost view = { λ a. a.by_node };
 
@@ -48,7 +48,7 @@ impl KeptContexts {
         ensures { (d : Document) → AreContextsOf d self.now → has d id ≡ true → result ≡ context_of d id }
     {
         match self.by_node.get(id) {
-            Some(context) => *context,
+            Some(standing) => standing.here,
             None => OUTSIDE,
         }
     }
@@ -63,15 +63,35 @@ impl KeptContexts {
         self.context(id).is_out()
     }
 
-    /// Keeps the context of a node.
-    pub(crate) fn keep(&mut self, id: ObjId, context: Context) -> Result<(), NoMemory>
-        ensures { OnOk result (self.new ≡ insert_entry nat_cmp self.old id context) }
+    /// What a node takes over of which `parent` is the parent, or which is the root.
+    pub(crate) fn above(&self, parent: Option<ObjId>) -> Context
+        ensures { result ≡ handed_on self.now parent }
     {
-        if context.is_out() {
-            self.out.add(id)?;
-            return self.by_node.put(id, context);
+        match parent {
+            Some(id) => self.below(id),
+            None => OUTSIDE,
         }
-        self.by_node.put(id, context)?;
+    }
+
+    /// What the children of a node take over.
+    fn below(&self, id: ObjId) -> Context
+        ensures { result ≡ handed_on self.now (Some id) }
+    {
+        match self.by_node.get(id) {
+            Some(standing) => standing.below,
+            None => OUTSIDE,
+        }
+    }
+
+    /// Keeps how a node stands.
+    pub(crate) fn keep(&mut self, id: ObjId, standing: Standing) -> Result<(), NoMemory>
+        ensures { OnOk result (self.new ≡ insert_entry nat_cmp self.old id standing) }
+    {
+        if standing.here.is_out() {
+            self.out.add(id)?;
+            return self.by_node.put(id, standing);
+        }
+        self.by_node.put(id, standing)?;
         self.out.remove(id);
         Ok(())
     }

@@ -1,59 +1,68 @@
 -- What a loop over children gathers.
-use Rattle.std.proofs.Common.{◌≡◌, ℕ, ◌+◌, ◌≤◌, ◌<◌, List, [], ◌∷◌, ◌++◌, length, take, filter, get_or, Bool, true, false, cond, ◌||◌, Option, Some, Contains, refl, sym, ap, subst, ◌∙◌, append-nil}
+use Rattle.std.proofs.Common.{◌≡◌, ℕ, zero, suc, ◌+◌, ◌-◌, ◌≤◌, List, [], ◌∷◌, ◌++◌, length, take, drop, Bool, true, false, cond, Some, Contains, refl, sym, ap, ◌∙◌, arith}
 use Rattle.std.specs.List.{flat_map}
-use Rattle.std.proofs.lemmas.List.{take_all}
-use Rattle.ax_base.specs.Document.{Document, has, children, spot, IsChild}
+use Rattle.std.proofs.lemmas.Bool.{false≢true}
+use Rattle.std.proofs.lemmas.List.{take_all, length-drop}
+use Rattle.std.proofs.lemmas.Grind.{flat_map-append}
+use Rattle.ax_base.specs.Document.{Document, children, spot, IsChild}
 use Rattle.ax_base.specs.Kids.{kids, taken}
 use Rattle.ax_base.specs.Context.{is_out}
 use Rattle.ax_base.specs.Roles.{ignored}
 use Rattle.ax_base.specs.Trees.{IsTree}
 use Rattle.ax_base.proofs.KidsLaws.{kids-children}
-use Rattle.ax_dom.specs.Subtrees.{subtree}
-use Rattle.ax_dom.proofs.Subtrees.{subtree_has}
-use Rattle.ax_dom.proofs.Without.{joined_keeps}
-use Rattle.ctx_pass.specs.Passes.{holds}
-use Rattle.ctx_pass.proofs.Passing.{SoFar, one_more}
-use Rattle.ctx_pass.proofs.Picking.{picked_in}
 use Rattle.kids_pass.specs.declared.children.NodeKids.{NodeKids}
-use Rattle.kids_pass.specs.Kids.{kept_kids, kids_at, shown, IsKidsKept, AreAllKept}
+use Rattle.kids_pass.specs.Kids.{kept_kids, given_by, given, given_at, IsKidsKept}
+use Rattle.ax_roles.specs.declared.inclusion.Inclusion.{Inclusion}
+use Rattle.ax_roles.specs.declared.inclusion.Inclusion.TheVariants.{Included, Ignored, Excluded}
+use Rattle.ax_roles.specs.Inclusion.{inclusion_by, is_object_by, inclusion}
 
-pub more_gathered : (d : Document) (cs : List ℕ) (i x : ℕ) (list new : List ℕ) → i < length cs → x ≡ get_or cs i x → list ≡ flat_map (taken d) (take i cs) → new ≡ list ++ taken d x → new ≡ flat_map (taken d) (take (i + 1) cs)
-more_gathered d cs i x list new low is so_far adds = adds ∙ ap (λ l. l ++ taken d x) so_far ∙ sym (one_more (taken d) cs i x low is)
+take_plus : (cs : List ℕ) (i n k : ℕ) → k ≡ i + n → i ≤ length cs → take k cs ≡ take i cs ++ take n (drop i cs)
+take_plus cs zero n k is low = let same : k ≡ n = omega arith in ap (λ j. take j cs) same
+take_plus [] (suc i) n k is low = absurd (omega arith)
+take_plus (c ∷ cs) (suc i) n zero is low = absurd (omega arith)
+take_plus (c ∷ cs) (suc i) n (suc k) is low = ap (λ l. c ∷ l) (take_plus cs i n k (omega arith) (omega arith))
 
--- what all children give are the kids
-pub all_gathered : (d : Document) → IsTree d → (n : ℕ) (cs list : List ℕ) → cs ≡ children d n → list ≡ flat_map (taken d) cs → list ≡ kids d n
-all_gathered d t n cs list same gives = gives ∙ ap (flat_map (taken d)) same ∙ sym (kids-children d t n)
-
--- of each child is kept what is right: of one that is renewed by the loop, and of another as before
-pub all_kept : (d : Document) (t : IsTree d) (s : Option (List ℕ)) (n : ℕ) (cs below : List ℕ) (was is : List (ℕ × NodeKids)) (first steps i : ℕ) → cs ≡ children d n → below ≡ filter (holds s) cs → length below ≤ i
-    → ((q : ℕ) → has d q ≡ true → holds s q ≡ false → IsKidsKept d was q) → SoFar d s (IsKidsKept d was) (IsKidsKept d is) first steps i below → AreAllKept d is cs
-all_kept d t s n cs below was is first steps i same those past others far c inside = (there, go (holds s c) refl)
+-- what the first give, and some of those that are left
+pub front_given : (f : ℕ → List ℕ) (cs old new : List ℕ) (i n : ℕ) → i ≤ length cs → old ≡ flat_map f (take i cs) → new ≡ old ++ flat_map f (take n (take (length cs - i) (drop i cs))) → new ≡ flat_map f (take (i + n) cs)
+front_given f cs old new i n low so_far adds =
+    adds
+    ∙ ap (λ l. old ++ flat_map f (take n l)) (take_all (length cs - i) (drop i cs) short)
+    ∙ ap (λ l. l ++ flat_map f (take n (drop i cs))) so_far
+    ∙ sym (ap (flat_map f) (take_plus cs i n (i + n) refl low) ∙ flat_map-append f (take i cs) (take n (drop i cs)))
   where
-    child : IsChild d n c
-    child = subst (λ l. Contains l c) same inside
+    short : length (drop i cs) ≤ length cs - i
+    short = let left : length (drop i cs) ≡ length cs - i = length-drop i cs in omega arith
 
-    there : has d c ≡ true
-    there = t.known n c child
+flat_map_same : (f g : ℕ → List ℕ) (cs : List ℕ) → ((c : ℕ) → Contains cs c → f c ≡ g c) → flat_map f cs ≡ flat_map g cs
+flat_map_same f g [] same = refl
+flat_map_same f g (c ∷ cs) same = ap (λ l. l ++ flat_map f cs) (same c (0, omega arith, refl)) ∙ ap (λ l. g c ++ l) (flat_map_same f g cs (λ x inside. same x (later x inside)))
+  where
+    later : (x : ℕ) → Contains cs x → Contains (c ∷ cs) x
+    later x (k, low, is) = (suc k, omega arith, is)
 
-    go : (b : Bool) → holds s c ≡ b → IsKidsKept d is c
-    go true on = far.done c (subst (λ l. Contains (flat_map (subtree d) l) c) (sym (take_all i below past)) (joined_keeps (subtree d) below c c (subst (λ l. Contains l c) (sym those) (picked_in (holds s) cs c inside on)) (subtree_has d t c))) on
-    go false off = far.stays c (others c there off)
+-- what a node gives by how it takes part, and by whether it is out and ignored
+given_tells : (out ignored : Bool) (kids : List ℕ) (n : ℕ) → given_by (inclusion_by out ignored) kids n ≡ cond out [] (cond ignored kids (n ∷ []))
+given_tells true ignored kids n = refl
+given_tells false true kids n = refl
+given_tells false false kids n = refl
 
--- what a child gives that is out, and one that is not
-pub nothing_given : (d : Document) (n : ℕ) (list : List ℕ) → is_out d n ≡ true → list ≡ list ++ taken d n
-nothing_given d n list on = sym (append-nil list) ∙ ap (λ b. list ++ cond b [] (cond (ignored (spot d n)) (kids d n) (n ∷ []))) (sym on)
-
-pub shown_given : (d : Document) (n : ℕ) (kept : List (ℕ × NodeKids)) (list new : List ℕ) → is_out d n ≡ false → IsKidsKept d kept n → new ≡ list ++ shown (kids_at kept n) n → new ≡ list ++ taken d n
-shown_given d n kept list new off right adds =
-    adds ∙ ap (λ o. list ++ shown o n) right ∙ ap (λ b. list ++ cond b [] (cond (ignored (spot d n)) (kids d n) (n ∷ []))) (sym off)
+-- what all children give are the kids, where what is kept of each is right
+pub all_gathered : (d : Document) → IsTree d → (n : ℕ) (cs list : List ℕ) (kept : List (ℕ × NodeKids)) → cs ≡ children d n → ((c : ℕ) → IsChild d n c → IsKidsKept d kept c) → list ≡ flat_map (given_at kept) cs → list ≡ kids d n
+all_gathered d t n cs list kept same right gives =
+    gives ∙ ap (flat_map (given_at kept)) same ∙ flat_map_same (given_at kept) (taken d) (children d n) (λ c child. ap (λ o. given o c) (right c child) ∙ given_tells (is_out d c) (ignored (spot d c)) (kids d c) c) ∙ sym (kids-children d t n)
 
 -- what is kept of a node
-abbrev pub made : Bool → List ℕ → NodeKids
-made alone list = record { ignored = alone; kids = list }
+abbrev pub made : Inclusion → List ℕ → NodeKids
+made part list = record { inclusion = part; kids = list }
 
-pub made_right : (d : Document) (n : ℕ) (alone : Bool) (list : List ℕ) → alone ≡ ignored (spot d n) → list ≡ kids d n → made alone list ≡ kept_kids d n
-made_right d n alone list is same = λ i. record { ignored = is i; kids = same i }
+pub made_right : (d : Document) (n : ℕ) (part : Inclusion) (list : List ℕ) → part ≡ inclusion d n → list ≡ kids d n → made part list ≡ kept_kids d n
+made_right d n part list takes same = λ i. record { inclusion = takes i; kids = same i }
 
--- what is not ignored gives itself
-pub gives_itself : (n : ℕ) (k : NodeKids) → k.ignored ≡ false → shown (Some k) n ≡ n ∷ []
-gives_itself n k off = ap (λ b. cond b k.kids (n ∷ [])) off
+-- an object gives itself
+pub gives_itself : (n : ℕ) (k : NodeKids) → is_object_by k.inclusion ≡ true → given (Some k) n ≡ n ∷ []
+gives_itself n k on = by k.inclusion on
+  where
+    by : (part : Inclusion) → is_object_by part ≡ true → given_by part k.kids n ≡ n ∷ []
+    by Included on = refl
+    by Ignored on = absurd (false≢true on)
+    by Excluded on = absurd (false≢true on)

@@ -1,1 +1,2 @@
+mod Descending
 mod Gathering

@@ -1,36 +1,36 @@
 //! Kids by node.
-ghost use Rattle.std.specs.Prelude.{◌≡◌, ◌++◌, true, [], IfOk, OnOk};
+ghost use Rattle.std.specs.Prelude.{◌≡◌, ◌≤◌, ◌<◌, ◌++◌, true, [], length, take, IfOk, OnOk};
 ghost use Rattle.std.specs.List.{flat_map};
 ghost use Rattle.std.specs.Ordering.{nat_cmp};
 ghost use Rattle.std.specs.BTreeMap.{insert_entry};
 ghost use Rattle.ax_base.specs.Document.{Document, has};
-ghost use Rattle.ax_base.specs.Kids.{kids, taken};
-ghost use Rattle.ctx_pass.specs.Contexts.{AreContextsOf};
-ghost use Rattle.kids_pass.specs.Kids.{kids_at, shown, IsKidsKept, AreKidsOf, AreAllKept};
+ghost use Rattle.ax_base.specs.Kids.{kids};
+ghost use Rattle.kids_pass.specs.Kids.{given_by, given_at, AreKidsOf};
 
 use crate::children::NodeKids;
 use ax_base::{IdMap, IdSet, Ids, NoMemory, ObjId};
-use ctx_pass::Contexts;
+use ax_roles::Inclusion;
 use std::alloc::Global;
 use std::marker::Model;
 
-/// Kids by node. Each node that is kept as ignored has a mark, so that of most of the others one look tells that they are not.
+/// Kids by node. Each node that is no object by what is kept of it has a mark, so that of most of the others one look tells
+/// that they give themselves to the kids of their parents.
 #[derive(Drop)]
 pub(crate) struct KeptKids {
     by_node: IdMap<NodeKids>,
-    ignored: IdSet,
+    replaced: IdSet,
 }
 
 impl Model for KeptKids {
     ghost use Rattle.std.specs.Prelude.{List, ℕ};
     ghost use Rattle.kids_pass.specs.declared.children.NodeKids.{NodeKids};
-    ghost use Rattle.kids_pass.specs.Kids.{OnlyMarkedAreIgnored};
+    ghost use Rattle.kids_pass.specs.Kids.{OthersGiveThemselves};
 
     ghost Value = { List (ℕ × NodeKids) };
 
     ghost view = { λ a. a.by_node };
 
-    ghost invariant = { λ a. OnlyMarkedAreIgnored a.ignored a.by_node };
+    ghost invariant = { λ a. OthersGiveThemselves a.replaced a.by_node };
 }
 
 impl KeptKids {
@@ -40,7 +40,7 @@ impl KeptKids {
     {
         KeptKids {
             by_node: IdMap::new(alloc),
-            ignored: IdSet::new(alloc),
+            replaced: IdSet::new(alloc),
         }
     }
 
@@ -58,64 +58,83 @@ impl KeptKids {
     pub(crate) fn keep(&mut self, id: ObjId, kept: NodeKids) -> Result<(), NoMemory>
         ensures { OnOk result (self.new ≡ insert_entry nat_cmp self.old id kept) }
     {
-        if kept.ignored {
-            self.ignored.add(id)?;
+        if !kept.inclusion.is_object() {
+            self.replaced.add(id)?;
             return self.by_node.put(id, kept);
         }
         self.by_node.put(id, kept)?;
-        self.ignored.remove(id);
+        self.replaced.remove(id);
         Ok(())
     }
 
     /// What some children give to the kids of their parent, together.
-    pub(crate) fn gathered(
-        &self,
-        alloc: Global,
-        contexts: &Contexts,
-        children: &[ObjId],
-    ) -> Result<Ids, NoMemory>
-        ensures { IfOk result (λ list. (d : Document) → AreContextsOf d contexts.now → AreAllKept d self.now children.now → list ≡ flat_map (taken d) children.now) }
+    pub(crate) fn gathered(&self, alloc: Global, children: &[ObjId]) -> Result<Ids, NoMemory>
+        ensures { IfOk result (λ list. list ≡ flat_map (given_at self.now) children.now) }
     {
-        let mut list = Ids::from_vec(Vec::with_capacity(alloc, children.len())?);
-        for child in children {
-            self.add_taken(contexts, *child, &mut list)?;
+        let mut list = Vec::with_capacity(alloc, children.len())?;
+        let mut done = 0;
+        while done < children.len() {
+            let more = self.add_front(&children[done..], &mut list)?;
+            done += more;
         }
-        Ok(list)
+        Ok(Ids::from_vec(list))
     }
 
-    /// Adds what a child gives to the kids of its parent: nothing where it is out, its kids where it is ignored, or itself.
-    fn add_taken(&self, contexts: &Contexts, child: ObjId, list: &mut Ids) -> Result<(), NoMemory>
-        ensures { OnOk result ((d : Document) → AreContextsOf d contexts.now → has d child ≡ true → IsKidsKept d self.now child → list.new ≡ list.old ++ taken d child) }
+    /// Adds what the first of some children give, up to one that does not give itself, and says how many these are.
+    fn add_front(&self, children: &[ObjId], list: &mut Vec<ObjId>) -> Result<usize, NoMemory>
+        requires some { 0 < length children.now }
+        ensures added { IfOk result (λ n. list.new.items ≡ list.old.items ++ flat_map (given_at self.now) (take n children.now)) }
+        ensures within { IfOk result (λ n. n ≤ length children.now) }
+        ensures goes_on { IfOk result (λ n. 0 < n) }
     {
-        if contexts.is_out(child) {
-            return Ok(());
+        let plain = self.plain(children);
+        list.extend_from_slice(&children[..plain])?;
+        if plain == children.len() {
+            return Ok(plain);
         }
-        self.add_shown(child, list)
+        self.add_given(children[plain], list)?;
+        Ok(plain + 1)
     }
 
-    /// Adds a child that is not out, or its kids where it is ignored.
-    fn add_shown(&self, child: ObjId, list: &mut Ids) -> Result<(), NoMemory>
-        ensures { OnOk result (list.new ≡ list.old ++ shown (kids_at self.now child) child) }
+    /// How many of the first of some children have no mark, so that each gives itself.
+    fn plain(&self, children: &[ObjId]) -> usize
+        ensures within { result ≤ length children.now }
+        ensures same { flat_map (given_at self.now) (take result children.now) ≡ take result children.now }
     {
-        if !self.ignored.has(child) {
-            return list.push(child);
+        for at in 0..children.len() {
+            if self.replaced.has(children[at]) {
+                return at;
+            }
         }
-        let Some(kept) = self.by_node.get(child) else {
-            return list.push(child);
-        };
-        if kept.ignored {
-            return add_all(list, kept.kids.as_slice());
+        children.len()
+    }
+
+    /// Adds what a child gives: nothing where it is out, its kids where it is ignored, or itself.
+    fn add_given(&self, child: ObjId, list: &mut Vec<ObjId>) -> Result<(), NoMemory>
+        ensures { OnOk result (list.new.items ≡ list.old.items ++ given_at self.now child) }
+    {
+        match self.by_node.get(child) {
+            Some(kept) => add_by(kept, child, list),
+            None => add_ids(&[child], list),
         }
-        list.push(child)
     }
 }
 
-/// Adds some ids at the end of others.
-fn add_all(list: &mut Ids, more: &[ObjId]) -> Result<(), NoMemory>
-    ensures { OnOk result (list.new ≡ list.old ++ more.now) }
+/// Adds what a child gives of which this is kept.
+fn add_by(kept: &NodeKids, child: ObjId, list: &mut Vec<ObjId>) -> Result<(), NoMemory>
+    ensures { OnOk result (list.new.items ≡ list.old.items ++ given_by kept.now.inclusion kept.now.kids child) }
 {
-    for id in more {
-        list.push(*id)?;
+    match kept.inclusion {
+        Inclusion::Included => add_ids(&[child], list),
+        Inclusion::Ignored => add_ids(kept.kids.as_slice(), list),
+        Inclusion::Excluded => Ok(()),
     }
+}
+
+/// Adds some ids at the end of a list.
+fn add_ids(ids: &[ObjId], list: &mut Vec<ObjId>) -> Result<(), NoMemory>
+    ensures { OnOk result (list.new.items ≡ list.old.items ++ ids.now) }
+{
+    list.extend_from_slice(ids)?;
     Ok(())
 }

@@ -1,67 +1,87 @@
 //! A renewal of kids, from below.
-ghost use Rattle.std.specs.Prelude.{◌≡◌, ◌≤◌, ◌+◌, ◌*◌, ℕ, true, false, OnOk, Contains};
-ghost use Rattle.ax_base.specs.Document.{has, spot};
-ghost use Rattle.ax_base.specs.Roles.{ignored};
+ghost use Rattle.std.specs.Prelude.{◌≡◌, ◌≤◌, ◌+◌, ◌*◌, ℕ, true, false, length, OnOk};
+ghost use Rattle.ax_base.specs.Document.{has, IsChild};
+ghost use Rattle.ax_roles.specs.Inclusion.{inclusion};
 ghost use Rattle.ax_base.specs.Trees.{IsTree};
-ghost use Rattle.ax_dom.specs.Subtrees.{subtree};
+ghost use Rattle.ax_dom.specs.Among.{is_in};
+ghost use Rattle.node_order.specs.Orders.{IsFromAbove};
 ghost use Rattle.ctx_pass.specs.Contexts.{AreContextsOf};
-ghost use Rattle.ctx_pass.specs.Passes.{holds, count, HoldsUp};
-ghost use Rattle.kids_pass.specs.Kids.{IsKidsKept};
+ghost use Rattle.kids_pass.specs.Kids.{IsKidsKept, AreKidsOf};
 
 use crate::children::NodeKids;
 use crate::kept::KeptKids;
 use ax_base::{NoMemory, ObjId, Steps};
 use ax_dom::Dom;
-use ax_roles::{node_is_ignored, node_role};
-use ctx_pass::{Contexts, Renewed};
+use ax_roles::{Inclusion, node_inclusion, node_role};
+use ctx_pass::Contexts;
 use std::alloc::Global;
 use std::sync::ledger::Ledger;
 
-/// Renews the kids of a node, and of those below it that are to be renewed. First it goes on to the children that are to be
-/// renewed, and then it gathers what all children give.
-#[cycle(renewal)]
-pub(crate) fn renew_node<L: Ledger>(
+/// Renews the kids of some nodes, each after those of its children.
+pub(crate) fn renew_each<L: Ledger>(
     alloc: Global,
     dom: &Dom,
     contexts: &Contexts,
-    reach: &Renewed,
+    nodes: &[ObjId],
     kids: &mut KeptKids,
-    id: ObjId,
     steps: &mut Steps<L>,
 ) -> Result<(), NoMemory>
     requires tree { IsTree dom.now }
     requires contexts { AreContextsOf dom.now contexts.now }
-    requires closed { HoldsUp dom.now reach.now }
-    requires others { (n : ℕ) → has dom.now n ≡ true → holds reach.now n ≡ false → IsKidsKept dom.now kids.old n }
-    requires known { has dom.now id ≡ true }
-    requires member { holds reach.now id ≡ true }
-    ensures stays { OnOk result ((n : ℕ) → IsKidsKept dom.now kids.old n → IsKidsKept dom.now kids.new n) }
-    ensures done { OnOk result ((n : ℕ) → Contains (subtree dom.now id) n → holds reach.now n ≡ true → IsKidsKept dom.now kids.new n) }
-    ensures counted { steps.new ≤ steps.old + 2 * count reach.now (subtree dom.now id) }
+    requires order { IsFromAbove dom.now nodes.now }
+    requires others { (n : ℕ) → has dom.now n ≡ true → is_in nodes.now n ≡ false → IsKidsKept dom.now kids.old n }
+    ensures value { OnOk result (AreKidsOf dom.now kids.new) }
+    ensures counted { steps.new ≤ steps.old + 2 * length nodes.now }
 {
-    let ignored = is_ignored(dom, id, steps);
-    let children = dom.children(id, steps);
-    let below = reach.among(alloc, children)?;
-    for child in below.as_slice() {
-        renew_node(alloc, dom, contexts, reach, kids, *child, steps)?;
+    for done in 0..nodes.len() {
+        let id = nodes[nodes.len() - 1 - done];
+        renew_one(alloc, dom, contexts, id, kids, steps)?;
     }
-    let list = kids.gathered(alloc, contexts, children)?;
-    let kept = NodeKids {
-        ignored,
-        kids: list,
-    };
-    kids.keep(id, kept)?;
     Ok(())
 }
 
-/// Whether a node is left out in favour of its kids.
-fn is_ignored<L: Ledger>(dom: &Dom, id: ObjId, steps: &mut Steps<L>) -> bool
+/// Renews the kids of a node, where those of its children are right.
+fn renew_one<L: Ledger>(
+    alloc: Global,
+    dom: &Dom,
+    contexts: &Contexts,
+    id: ObjId,
+    kids: &mut KeptKids,
+    steps: &mut Steps<L>,
+) -> Result<(), NoMemory>
+    requires tree { IsTree dom.now }
+    requires contexts { AreContextsOf dom.now contexts.now }
     requires known { has dom.now id ≡ true }
-    ensures value { result ≡ ignored (spot dom.now id) }
+    requires children { (c : ℕ) → IsChild dom.now id c → IsKidsKept dom.now kids.old c }
+    ensures here { OnOk result (IsKidsKept dom.now kids.new id) }
+    ensures keeps { OnOk result ((n : ℕ) → IsKidsKept dom.now kids.old n → IsKidsKept dom.now kids.new n) }
+    ensures counted { steps.new ≡ steps.old + 2 }
+{
+    let inclusion = inclusion_of(dom, contexts, id, steps);
+    let children = dom.children(id, steps);
+    let list = kids.gathered(alloc, children)?;
+    let kept = NodeKids {
+        inclusion,
+        kids: list,
+    };
+    kids.keep(id, kept)
+}
+
+/// How a node takes part in the tree.
+fn inclusion_of<L: Ledger>(
+    dom: &Dom,
+    contexts: &Contexts,
+    id: ObjId,
+    steps: &mut Steps<L>,
+) -> Inclusion
+    requires contexts { AreContextsOf dom.now contexts.now }
+    requires known { has dom.now id ≡ true }
+    ensures value { result ≡ inclusion dom.now id }
     ensures counted { steps.new ≡ steps.old + 1 }
 {
-    match dom.cell(id, steps) {
-        Some(cell) => node_is_ignored(id, node_role(id, &cell.body), &cell.body),
-        None => false,
-    }
+    let Some(cell) = dom.cell(id, steps) else {
+        return Inclusion::Excluded;
+    };
+    let role = node_role(id, &cell.body);
+    node_inclusion(id, role, &cell.body, contexts.is_out(id))
 }

@@ -1,8 +1,12 @@
-use Rattle.std.proofs.Common.{sym, arith}
-use Rattle.kids_pass.proofs.Gathering.{more_gathered}
+use Rattle.std.proofs.Common.{arith}
+use Rattle.kids_pass.specs.Kids.{given_at}
+use Rattle.kids_pass.proofs.Gathering.{front_given}
 use Rattle.kids_pass.proofs.kept.KeptKids.gathered.Goals as goal
 
-pub loop-child-preserved : goal.loop-child-preserved
-loop-child-preserved c = λ d are all.
-    let here = all c.child-item.result (c.loop-child.child-index, omega arith, sym c.child-item.is) in
-    more_gathered d c.args.children.now c.loop-child.child-index c.child-item.result c.loop-child.list c.add_taken.new.list (omega arith) c.child-item.is (c.loop-child.invariant d are all) (c.in_ok-add_taken.ensures d are here.0 here.1)
+pub loop-done-preserved : goal.loop-done-preserved
+loop-done-preserved c =
+    let within = c.in_ok-more.ensures.within in (
+      omega arith,
+      front_given (given_at c.args.self.now) c.args.children.now c.loop-done.list.items c.add_front.new.list.items c.loop-done.done c.in_ok-more.more
+          c.loop-done.invariant.0 c.loop-done.invariant.1 c.in_ok-more.ensures.added,
+    )
