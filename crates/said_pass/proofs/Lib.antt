@@ -1,4 +1,4 @@
-pub mod Passing
+pub mod Backward
 pub mod Gathering
 pub mod Speaking
 pub mod Referring

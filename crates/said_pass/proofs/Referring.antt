@@ -14,6 +14,7 @@ use Rattle.ax_names.proofs.Again.{flat_kept}
 use Rattle.ax_names.proofs.Between.{flat_between}
 use Rattle.ax_names.proofs.Joining.{pieces_join}
 use Rattle.ctx_pass.specs.declared.contexts.Context.{Context}
+use Rattle.ctx_pass.specs.declared.standing.Standing.{Standing}
 use Rattle.ctx_pass.specs.Contexts.{context_of}
 use Rattle.dom_ids.specs.declared.index.IdIndex.{IdIndex}
 use Rattle.dom_ids.specs.Index.{labels}
@@ -27,7 +28,7 @@ pub first_label_is : (d : Document) (x : Chars) → first_in (labels d x) ≡ fi
 first_label_is d x = first_of_filter (λ n. is_label_for x (body d n)) (order d)
 
 -- What is kept of a node that is referred to:
-module _ (d : Document) (index : IdIndex) (contexts : List (ℕ × Context)) (texts : List (ℕ × NodeText)) (sources : AreSourcesOf d index contexts texts) (n : ℕ) (there : has d n ≡ true) where
+module _ (d : Document) (index : IdIndex) (contexts : List (ℕ × Standing)) (texts : List (ℕ × NodeText)) (sources : AreSourcesOf d index contexts texts) (n : ℕ) (there : has d n ≡ true) where
   kept_is : (text : NodeText) → Some text ≡ text_at texts n → text ≡ node_text d n
   kept_is text found = let right = sources.are_texts n there in cc
 

@@ -14,7 +14,7 @@ use Rattle.ax_names.specs.OwnTexts.{said_as_child}
 use Rattle.ax_names.specs.Pieces.{Phrase, piece_of}
 use Rattle.ax_names.specs.Sessions.{referred_by}
 use Rattle.said_pass.specs.declared.texts.NodeText.{NodeText}
-use Rattle.said_pass.specs.Saids.{node_text, children_text, text_from}
+use Rattle.said_pass.specs.Saids.{kept_text, node_text, children_text, text_from}
 
 -- what hides stands between no spaces
 silent_child : (h b : Bool) (t : Chars) → spaced (b && not h) (cond h [] t) ≡ cond h [] (spaced b t)
@@ -43,9 +43,8 @@ module _ (d : Document) (t : IsTree d) (n : ℕ) where
 
   -- by the body that was read
   pub text_told : (b : Body) → b ≡ body d n → (inside text : NodeText) → inside ≡ children_text d (children d n)
-      → ((s w : Chars) → inside.shown ≡ piece_of s → inside.whole ≡ piece_of w → text ≡ text_from (record { id = n; body = b }) s w) → text ≡ node_text d n
-  text_told b is inside text same made =
-      made shown whole (ap (λ (x : NodeText). x.shown) same) (ap (λ (x : NodeText). x.whole) same) ∙ ap (λ v. text_from (record { id = n; body = v }) shown whole) is ∙ text_is
+      → ((s w : Chars) → inside ≡ kept_text s w → text ≡ text_from (record { id = n; body = b }) s w) → text ≡ node_text d n
+  text_told b is inside text same made = made shown whole same ∙ ap (λ v. text_from (record { id = n; body = v }) shown whole) is ∙ text_is
 
   -- where its own references count
   part_is : said_as_child (hides (spot d n)) (role (spot d n)) (referred_by d (text_of (codes "aria-labelledby") (body d n))) (body d n) (content_text d n) ≡ child_text d hides (said1 d) n

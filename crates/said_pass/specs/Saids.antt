@@ -15,8 +15,8 @@ use Rattle.ax_base.specs.References.{said1}
 use Rattle.ax_base.specs.Roles.{role, hides}
 use Rattle.ax_base.specs.Said.{child_text, nothing_hides, said0, said_all}
 use Rattle.ax_names.specs.OwnTexts.{said_as_child}
-use Rattle.ax_names.specs.Pieces.{piece_of, joined, all_apart}
-use Rattle.ctx_pass.specs.declared.contexts.Context.{Context}
+use Rattle.ax_names.specs.Pieces.{Phrase, piece_of, joined, all_apart}
+use Rattle.ctx_pass.specs.declared.standing.Standing.{Standing}
 use Rattle.ctx_pass.specs.Contexts.{AreContextsOf}
 use Rattle.dom_ids.specs.declared.index.IdIndex.{IdIndex}
 use Rattle.dom_ids.specs.Index.{IsIndexOf}
@@ -26,21 +26,25 @@ use Rattle.said_pass.specs.declared.texts.NodeText.{NodeText}
 
 -- Where no reference is followed:
 
+-- what is kept of a text without what hides and of one with it
+abbrev pub kept_text : Chars → Chars → NodeText
+kept_text shown whole = record { shown = piece_of shown; whole = piece_of whole }
+
 -- what a node says for its parent, without what hides and with it
 abbrev pub node_text : Document → ℕ → NodeText
-node_text d n = record { shown = piece_of (child_text d hides (said0 d) n); whole = piece_of (child_text d nothing_hides (said_all d) n) }
+node_text d n = kept_text (child_text d hides (said0 d) n) (child_text d nothing_hides (said_all d) n)
 
 -- what some children say, joined
 abbrev pub children_text : Document → List ℕ → NodeText
-children_text d cs = record { shown = piece_of (flat_map (child_text d hides (said0 d)) cs); whole = piece_of (flat_map (child_text d nothing_hides (said_all d)) cs) }
+children_text d cs = kept_text (flat_map (child_text d hides (said0 d)) cs) (flat_map (child_text d nothing_hides (said_all d)) cs)
 
 -- what no children say
 abbrev pub nothing_said : NodeText
-nothing_said = record { shown = piece_of []; whole = piece_of [] }
+nothing_said = kept_text [] []
 
 -- what a node says for its parent, from what its children say without what hides and with it
 abbrev pub text_from : Spot → Chars → Chars → NodeText
-text_from n shown whole = record { shown = piece_of (said_as_child (hides n) (role n) [] n.body shown); whole = piece_of (said_as_child false (role n) [] n.body whole) }
+text_from n shown whole = kept_text (said_as_child (hides n) (role n) [] n.body shown) (said_as_child false (role n) [] n.body whole)
 
 -- two texts, one behind the other
 abbrev pub joined_text : NodeText → NodeText → NodeText
@@ -73,7 +77,7 @@ abbrev pub said_by_tokens : Document → Chars → Chars
 said_by_tokens d text = all_apart (map (said_by_token d) (take 8 (tokens text)))
 
 -- what names are looked up in is that of a document: the index of its ids, its contexts, and what its nodes say where no reference is followed
-pub record AreSourcesOf (d : Document) (index : IdIndex) (contexts : List (ℕ × Context)) (texts : List (ℕ × NodeText)) : Type 0 where
+pub record AreSourcesOf (d : Document) (index : IdIndex) (contexts : List (ℕ × Standing)) (texts : List (ℕ × NodeText)) : Type 0 where
   pub is_index : IsIndexOf d index
   pub are_contexts : AreContextsOf d contexts
   pub are_texts : AreTextsOf d texts
@@ -83,6 +87,10 @@ pub record AreSourcesOf (d : Document) (index : IdIndex) (contexts : List (ℕ �
 -- what a node says for its parent as a part of a name, its name, and its description
 abbrev pub node_name : Document → ℕ → NodeName
 node_name d n = record { part = piece_of (child_text d hides (said1 d) n); name = name_of d n; description = description_of d n }
+
+-- what some children say as parts of a name, joined
+abbrev pub children_part : Document → List ℕ → Phrase
+children_part d cs = piece_of (flat_map (child_text d hides (said1 d)) cs)
 
 -- whether a node is an element that may be named, and nothing before its `title` names it
 abbrev pub is_title_name : Document → ℕ → Body → Bool
@@ -102,6 +110,10 @@ abbrev pub AreNamesOf : Document → List (ℕ × NodeName) → Type 0
 AreNamesOf d kept = (n : ℕ) → has d n ≡ true → IsNameKept d kept n
 
 -- Both:
+
+-- nothing is kept of any node
+abbrev pub nothing_kept : Saids
+nothing_kept = record { texts = []; names = [] }
 
 -- what a node says and is called is kept
 pub record IsSaidKept (d : Document) (s : Saids) (n : ℕ) : Type 0 where

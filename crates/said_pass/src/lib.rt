@@ -5,9 +5,8 @@ mod host_label;
 mod labelledby;
 mod names;
 mod naming;
-mod renewing_names;
-mod renewing_texts;
 mod saids;
+mod saying;
 mod sources;
 mod texts;
 

@@ -1,19 +1,17 @@
 //! The names and descriptions of nodes, and what they say as parts of names, as they are kept.
-ghost use Rattle.std.specs.Prelude.{◌≡◌, ◌≤◌, ◌+◌, ◌*◌, ℕ, true, false, [], OnOk, IfSome, Some, option_copied};
-ghost use Rattle.std.specs.List.Sorted.{IsStrictlyIncreasing};
-ghost use Rattle.std.specs.Ordering.{nat_cmp};
-ghost use Rattle.std.specs.BTreeMap.{insert_entry};
+ghost use Rattle.std.specs.Prelude.{◌≡◌, ◌≤◌, ◌+◌, ◌*◌, ℕ, true, false, [], length, Contains, OnOk, IfOk, Some};
 ghost use Rattle.ax_base.specs.AccessibleNames.{name_of, description_of};
-ghost use Rattle.ax_base.specs.Document.{Document, has, order};
+ghost use Rattle.ax_base.specs.Document.{Document, has, IsChild};
 ghost use Rattle.ax_base.specs.Trees.{IsTree};
+ghost use Rattle.ax_dom.specs.Among.{is_in};
 ghost use Rattle.ax_names.specs.Pieces.{joined};
-ghost use Rattle.ctx_pass.specs.Passes.{holds, count, HoldsUp};
+ghost use Rattle.node_order.specs.Orders.{IsFromAbove};
 ghost use Rattle.said_pass.specs.declared.names.NodeName.{NodeName};
-ghost use Rattle.said_pass.specs.Saids.{name_at, IsNameKept, AreNamesOf};
+ghost use Rattle.said_pass.specs.Saids.{name_at, children_part, IsNameKept, AreNamesOf};
 
-use crate::renewing_names::renew_within;
+use crate::naming::name_node;
 use crate::sources::Sources;
-use ax_base::{IdMap, Ids, NoMemory, ObjId, Steps, Text};
+use ax_base::{IdMap, NoMemory, ObjId, Steps, Text};
 use ax_names::Piece;
 use std::alloc::Global;
 use std::marker::Model;
@@ -29,10 +27,19 @@ pub(crate) struct NodeName {
 }
 
 /// What nodes are called, by their ids. That of nodes that are gone may be among it.
-#[derive(Drop)]
 pub(crate) struct NodeNames {
     kept: IdMap<NodeName>,
     nothing: Text,
+}
+
+/// Written out, so that whoever drops one makes one call in its proof.
+impl Drop for NodeNames {
+    fn drop(self) {
+        let NodeNames {
+            kept: _kept,
+            nothing: _nothing,
+        } = self;
+    }
 }
 
 impl Model for NodeNames {
@@ -55,39 +62,67 @@ impl NodeNames {
         }
     }
 
-    /// Renews what some nodes are called, or what all are. It reads each of them twice.
-    pub(crate) fn renew_all<L: Ledger>(
+    /// Renews what some nodes are called, which stand behind their parents, from the last to the first. It reads each of them
+    /// twice.
+    pub(crate) fn renew<L: Ledger>(
         &mut self,
         alloc: Global,
         sources: &Sources<'_>,
-        reach: Option<&Ids>,
+        nodes: &[ObjId],
         steps: &mut Steps<L>,
     ) -> Result<(), NoMemory>
         requires tree { IsTree sources.now }
-        requires rising { IfSome (option_copied reach) (λ ids. IsStrictlyIncreasing ids) }
-        requires closed { HoldsUp sources.now (option_copied reach) }
-        requires others { (n : ℕ) → has sources.now n ≡ true → holds (option_copied reach) n ≡ false → IsNameKept sources.now self.old n }
+        requires order { IsFromAbove sources.now nodes.now }
+        requires others { (n : ℕ) → has sources.now n ≡ true → is_in nodes.now n ≡ false → IsNameKept sources.now self.old n }
         ensures value { OnOk result (AreNamesOf sources.now self.new) }
-        ensures counted { steps.new ≤ steps.old + 2 * count (option_copied reach.entry) (order sources.now) }
+        ensures counted { steps.new ≤ steps.old + 2 * length nodes.now }
     {
-        renew_within(alloc, sources, reach, self, ObjId(1), steps)?;
+        for id in nodes.iter().rev() {
+            self.renew_node(alloc, sources, *id, steps)?;
+        }
         Ok(())
     }
 
-    /// Keeps what a node is called.
-    pub(crate) fn keep(&mut self, id: ObjId, name: NodeName) -> Result<(), NoMemory>
-        ensures { OnOk result (self.new ≡ insert_entry nat_cmp self.old id name) }
+    /// Renews what a node is called, where that of its children is kept. It reads the node twice.
+    fn renew_node<L: Ledger>(
+        &mut self,
+        alloc: Global,
+        sources: &Sources<'_>,
+        id: ObjId,
+        steps: &mut Steps<L>,
+    ) -> Result<(), NoMemory>
+        requires tree { IsTree sources.now }
+        requires known { has sources.now id ≡ true }
+        requires children { (c : ℕ) → IsChild sources.now id c → IsNameKept sources.now self.old c }
+        ensures here { OnOk result (IsNameKept sources.now self.new id) }
+        ensures stays { OnOk result ((n : ℕ) → IsNameKept sources.now self.old n → IsNameKept sources.now self.new n) }
+        ensures counted { steps.new ≤ steps.old + 2 }
     {
-        self.kept.put(id, name)
+        let content = self.children_part(alloc, sources.dom().children(id, steps))?;
+        let name = name_node(alloc, sources, id, content, steps)?;
+        self.kept.put(id, name)?;
+        Ok(())
+    }
+
+    /// What some children say as parts of a name, joined. It goes no further than to the child with which the text takes no
+    /// more.
+    fn children_part(&self, alloc: Global, children: &[ObjId]) -> Result<Piece, NoMemory>
+        ensures { IfOk result (λ content. (d : Document) → ((c : ℕ) → Contains children.now c → IsNameKept d self.now c) → content ≡ children_part d children.now) }
+    {
+        let mut content = Piece::empty(alloc);
+        for child in children {
+            if content.takes_no_more() {
+                return Ok(content);
+            }
+            self.add(*child, &mut content)?;
+        }
+        Ok(content)
     }
 
     /// Adds what a child says as a part of a name to what its siblings before it say.
-    pub(crate) fn add(&self, child: ObjId, content: &mut Piece) -> Result<(), NoMemory>
+    fn add(&self, child: ObjId, content: &mut Piece) -> Result<(), NoMemory>
         ensures { OnOk result ((n : NodeName) → name_at self.now child ≡ Some n → content.new ≡ joined content.old n.part) }
     {
-        if content.takes_no_more() {
-            return Ok(());
-        }
         match self.kept.get(child) {
             Some(name) => content.append(&name.part),
             None => Ok(()),

@@ -1,19 +1,17 @@
 //! What the nodes of a document say, their names and their descriptions.
-ghost use Rattle.std.specs.Prelude.{◌≡◌, ◌≤◌, ◌+◌, ◌*◌, ℕ, true, false, IfOk, IfSome, Some, None, option_copied};
-ghost use Rattle.std.specs.List.Sorted.{IsStrictlyIncreasing};
+ghost use Rattle.std.specs.Prelude.{◌≡◌, ◌≤◌, ◌+◌, ◌*◌, ℕ, true, false, length, IfOk};
 ghost use Rattle.ax_base.specs.AccessibleNames.{name_of, description_of};
-ghost use Rattle.ax_base.specs.Document.{Document, has, order};
-ghost use Rattle.ax_base.specs.Trees.{IsTree};
-ghost use Rattle.ax_dom.specs.Among.{is_in, IsClosedUp};
+ghost use Rattle.ax_base.specs.Document.{Document, has};
+ghost use Rattle.ax_dom.specs.Among.{is_in};
 ghost use Rattle.ctx_pass.specs.Contexts.{AreContextsOf};
-ghost use Rattle.ctx_pass.specs.Passes.{holds, count, HoldsUp};
 ghost use Rattle.dom_ids.specs.Index.{IsIndexOf};
-ghost use Rattle.said_pass.specs.Saids.{IsSaidKept, AreSaidsOf};
+ghost use Rattle.node_order.specs.Orders.{IsFromAbove};
+ghost use Rattle.said_pass.specs.Saids.{nothing_kept, IsSaidKept, AreSaidsOf};
 
 use crate::names::NodeNames;
 use crate::sources::Sources;
 use crate::texts::NodeTexts;
-use ax_base::{Ids, NoMemory, ObjId, Steps, Text};
+use ax_base::{NoMemory, ObjId, Steps, Text};
 use ax_dom::Dom;
 use ctx_pass::Contexts;
 use dom_ids::IdIndex;
@@ -22,56 +20,66 @@ use std::sync::ledger::Ledger;
 
 /// What the nodes of a document say, their names and their descriptions, by their ids. Those of nodes that are gone may be among
 /// them.
-#[derive(Drop)]
 pub struct Saids {
     pub(crate) texts: NodeTexts,
     pub(crate) names: NodeNames,
 }
 
+/// Written out, so that whoever drops one makes one call in its proof.
+impl Drop for Saids {
+    fn drop(self) {
+        let Saids {
+            texts: _texts,
+            names: _names,
+        } = self;
+    }
+}
+
 impl Saids {
-    /// What the nodes of a document say and are called, of which `ids` is the index and `contexts` are the contexts. It reads
-    /// each node four times.
-    pub fn new<L: Ledger>(
-        alloc: Global,
-        dom: &Dom,
-        ids: &IdIndex,
-        contexts: &Contexts,
-        steps: &mut Steps<L>,
-    ) -> Result<Saids, NoMemory>
-        requires ids { IsIndexOf dom.now ids.now }
-        requires contexts { AreContextsOf dom.now contexts.now }
-        ensures value { IfOk result (λ saids. AreSaidsOf dom.now saids) }
-        ensures counted { steps.new ≤ steps.old + 4 * count None (order dom.now) }
+    /// Nothing is kept yet. It takes no memory.
+    pub fn new(alloc: Global) -> Saids
+        ensures { result ≡ nothing_kept }
     {
-        dom.keeps_tree();
-        let saids = Saids {
+        Saids {
             texts: NodeTexts::new(alloc),
             names: NodeNames::new(alloc),
-        };
-        saids.renew_all(alloc, dom, ids, contexts, None, steps)
+        }
     }
 
-    /// What the nodes of a document say and are called, where that of all nodes outside of `reach` is kept already. It reads
-    /// each node of `reach` four times. At an error what was kept is given up.
+    /// What the nodes of a document say and are called, of which `ids` is the index and `contexts` are the contexts, where that
+    /// of all nodes but `nodes` is kept already. These stand in an order from above, each behind its parent, and it reads each of
+    /// them four times. At an error what was kept is given up.
     pub fn renew<L: Ledger>(
         self,
         alloc: Global,
         dom: &Dom,
         ids: &IdIndex,
         contexts: &Contexts,
-        reach: &Ids,
+        nodes: &[ObjId],
         steps: &mut Steps<L>,
     ) -> Result<Saids, NoMemory>
         requires ids { IsIndexOf dom.now ids.now }
         requires contexts { AreContextsOf dom.now contexts.now }
-        requires rising { IsStrictlyIncreasing reach.now }
-        requires closed { IsClosedUp dom.now reach.now }
-        requires others { (n : ℕ) → has dom.now n ≡ true → is_in reach.now n ≡ false → IsSaidKept dom.now self n }
+        requires order { IsFromAbove dom.now nodes.now }
+        requires others { (n : ℕ) → has dom.now n ≡ true → is_in nodes.now n ≡ false → IsSaidKept dom.now self n }
         ensures value { IfOk result (λ saids. AreSaidsOf dom.now saids) }
-        ensures counted { steps.new ≤ steps.old + 4 * count (Some reach.now) (order dom.now) }
+        ensures counted { steps.new ≤ steps.old + 4 * length nodes.now }
     {
         dom.keeps_tree();
-        self.renew_all(alloc, dom, ids, contexts, Some(reach), steps)
+        let Saids {
+            mut texts,
+            mut names,
+        } = self;
+        // First the texts, which follow no reference, and over these the names.
+        texts.renew(alloc, dom, nodes, steps)?;
+        let sources = Sources {
+            dom,
+            ids,
+            contexts,
+            texts: &texts,
+        };
+        names.renew(alloc, &sources, nodes, steps)?;
+        Ok(Saids { texts, names })
     }
 
     /// The accessible name of a node of the document.
@@ -86,40 +94,5 @@ impl Saids {
         ensures { (d : Document) → AreSaidsOf d self.now → has d id ≡ true → result.now ≡ description_of d id }
     {
         self.names.description(id)
-    }
-
-    /// Renews what some nodes say and are called, or what all do: first their texts, which follow no reference, and over these
-    /// their names.
-    fn renew_all<L: Ledger>(
-        self,
-        alloc: Global,
-        dom: &Dom,
-        ids: &IdIndex,
-        contexts: &Contexts,
-        reach: Option<&Ids>,
-        steps: &mut Steps<L>,
-    ) -> Result<Saids, NoMemory>
-        requires tree { IsTree dom.now }
-        requires ids { IsIndexOf dom.now ids.now }
-        requires contexts { AreContextsOf dom.now contexts.now }
-        requires rising { IfSome (option_copied reach) (λ ids. IsStrictlyIncreasing ids) }
-        requires closed { HoldsUp dom.now (option_copied reach) }
-        requires others { (n : ℕ) → has dom.now n ≡ true → holds (option_copied reach) n ≡ false → IsSaidKept dom.now self n }
-        ensures value { IfOk result (λ saids. AreSaidsOf dom.now saids) }
-        ensures counted { steps.new ≤ steps.old + 4 * count (option_copied reach.entry) (order dom.now) }
-    {
-        let Saids {
-            mut texts,
-            mut names,
-        } = self;
-        texts.renew_all(alloc, dom, reach, steps)?;
-        let sources = Sources {
-            dom,
-            ids,
-            contexts,
-            texts: &texts,
-        };
-        names.renew_all(alloc, &sources, reach, steps)?;
-        Ok(Saids { texts, names })
     }
 }

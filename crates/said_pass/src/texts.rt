@@ -1,16 +1,15 @@
 //! What nodes say where no reference is followed, as it is kept.
-ghost use Rattle.std.specs.Prelude.{◌≡◌, ◌≤◌, ◌+◌, ◌*◌, ℕ, true, false, [], OnOk, IfSome, Some, option_copied};
-ghost use Rattle.std.specs.List.Sorted.{IsStrictlyIncreasing};
-ghost use Rattle.std.specs.Ordering.{nat_cmp};
-ghost use Rattle.std.specs.BTreeMap.{insert_entry};
-ghost use Rattle.ax_base.specs.Document.{has, order};
+ghost use Rattle.std.specs.Prelude.{◌≡◌, ◌≤◌, ◌+◌, ◌*◌, ℕ, true, false, [], length, Contains, OnOk, IfOk, Some, option_copied};
+ghost use Rattle.ax_base.specs.Characters.{Chars};
+ghost use Rattle.ax_base.specs.Document.{Document, has, IsChild};
 ghost use Rattle.ax_base.specs.Trees.{IsTree};
-ghost use Rattle.ctx_pass.specs.Passes.{holds, count, HoldsUp};
+ghost use Rattle.ax_dom.specs.Among.{is_in};
+ghost use Rattle.node_order.specs.Orders.{IsFromAbove};
 ghost use Rattle.said_pass.specs.declared.texts.NodeText.{NodeText};
-ghost use Rattle.said_pass.specs.Saids.{text_at, joined_text, IsTextKept, AreTextsOf};
+ghost use Rattle.said_pass.specs.Saids.{kept_text, children_text, nothing_said, joined_text, text_at, IsTextKept, AreTextsOf};
 
-use crate::renewing_texts::renew_within;
-use ax_base::{IdMap, Ids, NoMemory, ObjId, Steps};
+use crate::saying::node_text;
+use ax_base::{IdMap, NoMemory, ObjId, Steps};
 use ax_dom::Dom;
 use ax_names::Piece;
 use std::alloc::Global;
@@ -26,10 +25,46 @@ pub(crate) struct NodeText {
     pub(crate) whole: Piece,
 }
 
+impl NodeText {
+    /// What no children say. It takes no memory.
+    fn nothing(alloc: Global) -> NodeText
+        ensures { result ≡ nothing_said }
+    {
+        NodeText {
+            shown: Piece::empty(alloc),
+            whole: Piece::empty(alloc),
+        }
+    }
+
+    /// Adds what another child says to what its siblings before it say.
+    fn append(&mut self, child: &NodeText) -> Result<(), NoMemory>
+        ensures { OnOk result (self.new ≡ joined_text self.old child.now) }
+    {
+        self.shown.append(&child.shown)?;
+        self.whole.append(&child.whole)
+    }
+
+    /// Whether it stays the same whatever more children say, since they say more already than it keeps.
+    fn takes_no_more(&mut self) -> bool
+        ensures full { result ≡ true → (more : NodeText) → self.new ≡ joined_text self.old more }
+        ensures stays { (shown whole : Chars) → self.old ≡ kept_text shown whole → self.new ≡ kept_text shown whole }
+    {
+        let shown = self.shown.takes_no_more();
+        let whole = self.whole.takes_no_more();
+        shown && whole
+    }
+}
+
 /// What nodes say where no reference is followed, by their ids. That of nodes that are gone may be among it.
-#[derive(Drop)]
 pub(crate) struct NodeTexts {
     kept: IdMap<NodeText>,
+}
+
+/// Written out, so that whoever drops one makes one call in its proof.
+impl Drop for NodeTexts {
+    fn drop(self) {
+        let NodeTexts { kept: _kept } = self;
+    }
 }
 
 impl Model for NodeTexts {
@@ -51,23 +86,69 @@ impl NodeTexts {
         }
     }
 
-    /// Renews what some nodes say, or what all say. It reads each of them twice.
-    pub(crate) fn renew_all<L: Ledger>(
+    /// Renews what some nodes say, which stand behind their parents, from the last to the first. It reads each of them twice.
+    pub(crate) fn renew<L: Ledger>(
         &mut self,
         alloc: Global,
         dom: &Dom,
-        reach: Option<&Ids>,
+        nodes: &[ObjId],
         steps: &mut Steps<L>,
     ) -> Result<(), NoMemory>
         requires tree { IsTree dom.now }
-        requires rising { IfSome (option_copied reach) (λ ids. IsStrictlyIncreasing ids) }
-        requires closed { HoldsUp dom.now (option_copied reach) }
-        requires others { (n : ℕ) → has dom.now n ≡ true → holds (option_copied reach) n ≡ false → IsTextKept dom.now self.old n }
+        requires order { IsFromAbove dom.now nodes.now }
+        requires others { (n : ℕ) → has dom.now n ≡ true → is_in nodes.now n ≡ false → IsTextKept dom.now self.old n }
         ensures value { OnOk result (AreTextsOf dom.now self.new) }
-        ensures counted { steps.new ≤ steps.old + 2 * count (option_copied reach.entry) (order dom.now) }
+        ensures counted { steps.new ≤ steps.old + 2 * length nodes.now }
     {
-        renew_within(alloc, dom, reach, self, ObjId(1), steps)?;
+        for id in nodes.iter().rev() {
+            self.renew_node(alloc, dom, *id, steps)?;
+        }
         Ok(())
+    }
+
+    /// Renews what a node says, where that of its children is kept. It reads the node twice.
+    fn renew_node<L: Ledger>(
+        &mut self,
+        alloc: Global,
+        dom: &Dom,
+        id: ObjId,
+        steps: &mut Steps<L>,
+    ) -> Result<(), NoMemory>
+        requires tree { IsTree dom.now }
+        requires known { has dom.now id ≡ true }
+        requires children { (c : ℕ) → IsChild dom.now id c → IsTextKept dom.now self.old c }
+        ensures here { OnOk result (IsTextKept dom.now self.new id) }
+        ensures stays { OnOk result ((n : ℕ) → IsTextKept dom.now self.old n → IsTextKept dom.now self.new n) }
+        ensures counted { steps.new ≤ steps.old + 2 }
+    {
+        let inside = self.children_text(alloc, dom.children(id, steps))?;
+        let text = node_text(alloc, dom, id, inside, steps)?;
+        self.kept.put(id, text)?;
+        Ok(())
+    }
+
+    /// What some children say, joined. It goes no further than to the child with which neither text takes more.
+    fn children_text(&self, alloc: Global, children: &[ObjId]) -> Result<NodeText, NoMemory>
+        ensures { IfOk result (λ inside. (d : Document) → ((c : ℕ) → Contains children.now c → IsTextKept d self.now c) → inside ≡ children_text d children.now) }
+    {
+        let mut inside = NodeText::nothing(alloc);
+        for child in children {
+            if inside.takes_no_more() {
+                return Ok(inside);
+            }
+            self.add(*child, &mut inside)?;
+        }
+        Ok(inside)
+    }
+
+    /// Adds what a child says to what its siblings before it say.
+    fn add(&self, child: ObjId, inside: &mut NodeText) -> Result<(), NoMemory>
+        ensures { OnOk result ((t : NodeText) → text_at self.now child ≡ Some t → inside.new ≡ joined_text inside.old t) }
+    {
+        match self.get(child) {
+            Some(text) => inside.append(text),
+            None => Ok(()),
+        }
     }
 
     /// What is kept of a node.
@@ -75,33 +156,5 @@ impl NodeTexts {
         ensures { option_copied result ≡ text_at self.now id }
     {
         self.kept.get(id)
-    }
-
-    /// Keeps what a node says.
-    pub(crate) fn keep(&mut self, id: ObjId, text: NodeText) -> Result<(), NoMemory>
-        ensures { OnOk result (self.new ≡ insert_entry nat_cmp self.old id text) }
-    {
-        self.kept.put(id, text)
-    }
-
-    /// Adds what a child says to what its siblings before it say.
-    pub(crate) fn add(&self, child: ObjId, inside: &mut NodeText) -> Result<(), NoMemory>
-        ensures { OnOk result ((t : NodeText) → text_at self.now child ≡ Some t → inside.new ≡ joined_text inside.old t) }
-    {
-        let shown = inside.shown.takes_no_more();
-        let whole = inside.whole.takes_no_more();
-        if shown && whole {
-            return Ok(());
-        }
-        let Some(text) = self.get(child) else {
-            return Ok(());
-        };
-        if !shown {
-            inside.shown.append(&text.shown)?;
-        }
-        if !whole {
-            inside.whole.append(&text.whole)?;
-        }
-        Ok(())
     }
 }

@@ -3,7 +3,7 @@ use Rattle.std.proofs.lemmas.Result.{IfOk-weaker}
 use Rattle.ax_dom.specs.declared.cell.Cell.{Cell}
 use Rattle.ax_names.proofs.Speaking.{cell_is}
 use Rattle.said_pass.proofs.Speaking.{text_told}
-use Rattle.said_pass.proofs.renewing_texts.text_of.Goals as goal
+use Rattle.said_pass.proofs.saying.node_text.Goals as goal
 
 pub returns-in-Some-clause-value : goal.returns-in-Some-clause-value
 returns-in-Some-clause-value g c =
