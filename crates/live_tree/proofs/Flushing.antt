@@ -1,13 +1,13 @@
 -- What a live tree keeps stays right.
-use Rattle.std.proofs.Common.{◌≡◌, ℕ, ◌+◌, ◌*◌, ◌≤◌, List, length, true, false, Some, sym, ap, subst, ◌∙◌, arith}
+use Rattle.std.proofs.Common.{◌≡◌, ℕ, ◌+◌, ◌*◌, ◌≤◌, List, length, true, false, sym, ap, subst, ◌∙◌, arith}
 use Rattle.std.specs.Prelude.{sum_by}
 use Rattle.std.specs.List.Sorted.{IsStrictlyIncreasing}
-use Rattle.ax_base.specs.Document.{Document, has, order}
+use Rattle.ax_base.specs.Document.{Document, has}
 use Rattle.ax_base.specs.Trees.{IsTree}
 use Rattle.ax_dom.specs.Among.{is_in, IsClosedUp}
 use Rattle.ax_record.specs.Tree.{Tree}
 use Rattle.ax_record.specs.Records.{tree}
-use Rattle.ctx_pass.specs.Passes.{count}
+use Rattle.node_order.specs.Orders.{IsFromAbove}
 use Rattle.dirty_set.specs.Reach.{Marked, no_marks, reach, weight}
 use Rattle.dirty_set.specs.Covers.{Covers}
 use Rattle.dirty_set.proofs.Covering.{covers_none}
@@ -17,8 +17,8 @@ use Rattle.live_tree.specs.declared.passes.Passes.{Passes}
 use Rattle.live_tree.specs.LiveTrees.{LiveDocument, unmarked}
 use Rattle.marked_dom.specs.Marked.{MarkedDocument}
 use Rattle.live_tree.specs.Living.{ArePassesOf, ArePassesBut, IsLive, WasAlike, HasFocusAmong, IsRightBut, IsPresent}
-use Rattle.live_tree.proofs.Counting.{pass_few}
-use Rattle.live_tree.proofs.Reached.{reach_rises, reach_closed, reach_focused, still_alike, passes_kept}
+use Rattle.live_tree.specs.Remaking.{IsOrderOf}
+use Rattle.live_tree.proofs.Reached.{reach_rises, reach_known, reach_closed, reach_focused, still_alike, passes_kept}
 
 -- after a flush, and at the start
 pub begins : (shown : Tree) (dom : MarkedDocument) (p : Passes) (d : Document) → IsTree d → shown ≡ tree d → dom ≡ record { document = d; marks = no_marks } → ArePassesOf d p → IsLive shown dom p
@@ -52,6 +52,7 @@ module _ (shown : Tree) (dom : MarkedDocument) (p : Passes) (live : IsLive shown
   -- all but what the marks reach is right
   pub right_but : IsRightBut shown d p ns
   right_but = record {
+    known = subst (λ l. (n : ℕ) → is_in l n ≡ true → has d n ≡ true) (sym reach_is) (reach_known d t dom.marks);
     rising = subst IsStrictlyIncreasing (sym reach_is) (reach_rises d t dom.marks);
     closed = subst (IsClosedUp d) (sym reach_is) (reach_closed d t dom.marks);
     focus = subst (HasFocusAmong d) (sym reach_is) (reach_focused d t dom.marks);
@@ -95,16 +96,44 @@ module _ (kept : Tree) (d : Document) (p : Passes) (ns : List ℕ) (right : IsRi
   pub was_but : WasAlike kept d listed
   was_but = subst (WasAlike kept d) (sym is) right.was
 
--- the reads of a renewal: eight for each node that is renewed, and five for its records
-pub passes_read : (d : Document) → IsTree d → (ns : List ℕ) (first passed : ℕ) → passed ≤ first + 8 * count (Some ns) (order d) → passed ≤ first + 13 * length ns
-passes_read d t ns first passed read = let few = pass_few d t ns in omega arith
+  pub listed_known : (n : ℕ) → is_in listed n ≡ true → has d n ≡ true
+  listed_known n on = right.known n (ap (λ l. is_in l n) (sym is) ∙ on)
 
-pub all_read : (d : Document) → IsTree d → (ns listed : List ℕ) (first passed last : ℕ) → listed ≡ ns → passed ≤ first + 8 * count (Some ns) (order d) → last ≤ passed + 5 * length listed → last ≤ first + 13 * length ns
-all_read d t ns listed first passed last is read more = let few = pass_few d t ns in let same = ap length is in omega arith
+  pub listed_closed : IsClosedUp d listed
+  listed_closed = subst (IsClosedUp d) (sym is) right.closed
+
+  -- the same nodes in an order from above
+  module _ (order down : List ℕ) (same : down ≡ order) (among : (n : ℕ) → is_in order n ≡ is_in listed n) where
+    down_among : (n : ℕ) → is_in down n ≡ is_in listed n
+    down_among n = ap (λ l. is_in l n) same ∙ among n
+
+    out_of : (n : ℕ) → is_in down n ≡ false → is_in ns n ≡ false
+    out_of n off = ap (λ l. is_in l n) (sym is) ∙ sym (down_among n) ∙ off
+
+    pub others_but : ArePassesBut d p down
+    others_but = record {
+      contexts = λ n there off. right.others.contexts n there (out_of n off);
+      kids = λ n there off. right.others.kids n there (out_of n off);
+      saids = λ n there off. right.others.saids n there (out_of n off);
+    }
+
+    pub in_order : IsFromAbove d order → length order ≤ length listed → IsOrderOf d listed down
+    in_order from few = record { order = subst (IsFromAbove d) (sym same) from; same = down_among; few = subst (λ (l : List ℕ). length l ≤ length listed) (sym same) few }
+
+-- the reads of a renewal: one for each node that is renewed to put them in order, seven for what is kept of it, and four for its records
+pub order_read : (ns listed : List ℕ) (first ordered : ℕ) → listed ≡ ns → ordered ≤ first + length listed → ordered ≤ first + 12 * length ns
+order_read ns listed first ordered is read = let same = ap length is in omega arith
+
+pub passes_read : (ns listed order down : List ℕ) (first ordered passed : ℕ) → listed ≡ ns → down ≡ order → length order ≤ length listed → ordered ≤ first + length listed → passed ≤ ordered + 7 * length down → passed ≤ first + 12 * length ns
+passes_read ns listed order down first ordered passed is at few read more = let same = ap length is in let all = ap length at in omega arith
+
+pub all_read : (ns listed order down : List ℕ) (first ordered passed last : ℕ) → listed ≡ ns → down ≡ order → length order ≤ length listed → ordered ≤ first + length listed → passed ≤ ordered + 7 * length down → last ≤ passed + 4 * length listed
+    → last ≤ first + 12 * length ns
+all_read ns listed order down first ordered passed last is at few read more rest = let same = ap length is in let all = ap length at in omega arith
 
 -- those of a flush, with three for what the marks weigh
 pub flush_read : (dom : MarkedDocument) (self : LiveDocument) (shown : Tree) → live_document shown dom ≡ self → (ns : List ℕ) → ns ≡ reach dom.document dom.marks → (first found last : ℕ)
-    → found ≤ first + 3 * weight dom.document dom.marks → last ≤ found + 13 * length ns → last ≤ first + 16 * weight self.document self.marks
+    → found ≤ first + 3 * weight dom.document dom.marks → last ≤ found + 12 * length ns → last ≤ first + 15 * weight self.document self.marks
 flush_read dom self shown view ns is first found last reached renewed =
     let few = reach_weighs dom.document dom.marks ns is in
     let same : weight dom.document dom.marks ≡ weight self.document self.marks = ap (λ (x : LiveDocument). weight x.document x.marks) view in

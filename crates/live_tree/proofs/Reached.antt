@@ -1,5 +1,5 @@
 -- What is outside of the reach of marks is as it was.
-use Rattle.std.proofs.Common.{◌≡◌, ℕ, List, Bool, true, false, Option, Some, Contains, refl, sym, ap, ◌∙◌}
+use Rattle.std.proofs.Common.{◌≡◌, ℕ, List, Bool, true, false, Some, refl, sym, ap, ◌∙◌}
 use Rattle.std.specs.Prelude.{nat_eq}
 use Rattle.std.specs.List.{list_any}
 use Rattle.std.specs.Option.{option_map_or}
@@ -7,7 +7,7 @@ use Rattle.std.specs.Cmp.{nat_eq_equiv}
 use Rattle.std.specs.List.Sorted.{IsStrictlyIncreasing}
 use Rattle.std.proofs.lemmas.Bool.{false≢true, or_left, or_right, eqb-true, eq-eqb}
 use Rattle.std.proofs.lemmas.Map.Views.{Contains-from_any, list_any-from_Contains}
-use Rattle.ax_base.specs.Document.{Document, Spot, has, body}
+use Rattle.ax_base.specs.Document.{Document, has, body}
 use Rattle.ax_base.specs.Roles.{ignored}
 use Rattle.ax_base.specs.Trees.{IsTree}
 use Rattle.ax_base.proofs.Places.{has_children}
@@ -16,8 +16,10 @@ use Rattle.dirty_set.specs.Reach.{Marked, is_at_marks, is_focus, is_source, ties
 use Rattle.dirty_set.specs.Covers.{Covers}
 use Rattle.dirty_set.proofs.Follows.{lineage_head}
 use Rattle.dirty_set.proofs.Nearness.{at_lineage, within_up, kept_there, there_kept, kept_rises}
-use Rattle.ctx_pass.specs.declared.contexts.Context.{Context}
+use Rattle.ctx_pass.specs.declared.standing.Standing.{Standing}
+use Rattle.ctx_pass.specs.Contexts.{standing}
 use Rattle.ctx_pass.specs.Contexts.{AreContextsOf, IsContextKept}
+use Rattle.ax_roles.specs.Inclusion.{inclusion_by}
 use Rattle.kids_pass.specs.declared.children.NodeKids.{NodeKids}
 use Rattle.kids_pass.specs.Kids.{AreKidsOf, IsKidsKept}
 use Rattle.said_pass.specs.declared.saids.Saids.{Saids}
@@ -35,6 +37,10 @@ module _ (d : Document) (t : IsTree d) (m : Marked) where
   reach_closed p c child on =
       let k = kept_there d t (is_reached d m) c (Contains-from_any eqb-true c (reach d m) on) in
       list_any-from_Contains nat_eq_equiv p (reach d m) (there_kept d t (is_reached d m) p (has_children d p c child) (within_up d t (is_touched d m) p c child k.1))
+
+  -- what is reached is there
+  pub reach_known : (n : ℕ) → is_in (reach d m) n ≡ true → has d n ≡ true
+  reach_known n on = (kept_there d t (is_reached d m) n (Contains-from_any eqb-true n (reach d m) on)).0
 
   -- the focused node is reached
   pub reach_focused : HasFocusAmong d (reach d m)
@@ -59,15 +65,15 @@ module _ (d : Document) (t : IsTree d) (m : Marked) where
         let s = covers n there (unreached n there out) in
         record { was = s.was; body_same = s.body_same; out = s.out; live = s.live; kids_are = s.kids_are; name = s.name; description = s.description }
 
-    contexts_kept : (kept : List (ℕ × Context)) → AreContextsOf old kept → (n : ℕ) → has d n ≡ true → is_in (reach d m) n ≡ false → IsContextKept d kept n
+    contexts_kept : (kept : List (ℕ × Standing)) → AreContextsOf old kept → (n : ℕ) → has d n ≡ true → is_in (reach d m) n ≡ false → IsContextKept d kept n
     contexts_kept kept are n there out =
         let s = covers n there (unreached n there out) in
-        are n s.was ∙ (λ i. Some (record { hidden = s.hidden i; pruned = s.pruned i; live = s.live i }))
+        are n s.was ∙ (λ i. Some (standing (record { hidden = s.hidden i; pruned = s.pruned i; live = s.live i }) (record { id = n; body = s.body_same i })))
 
     kids_kept : (kept : List (ℕ × NodeKids)) → AreKidsOf old kept → (n : ℕ) → has d n ≡ true → is_in (reach d m) n ≡ false → IsKidsKept d kept n
     kids_kept kept are n there out =
         let s = covers n there (unreached n there out) in
-        are n s.was ∙ (λ i. Some (record { ignored = ignored (record { id = n; body = s.body_same i }); kids = s.kids_are i }))
+        are n s.was ∙ (λ i. Some (record { inclusion = inclusion_by (s.out i) (ignored (record { id = n; body = s.body_same i })); kids = s.kids_are i }))
 
     saids_kept : (kept : Saids) → AreSaidsOf old kept → (n : ℕ) → has d n ≡ true → is_in (reach d m) n ≡ false → IsSaidKept d kept n
     saids_kept kept are n there out =

@@ -1,7 +1,7 @@
 -- The records that are made anew are those of the tree.
-use Rattle.std.proofs.Common.{◌≡◌, ◌⊎◌, inl, inr, ℕ, ◌-◌, ◌+◌, ◌<◌, length, get_or, take, drop, append_assoc, List, [], ◌∷◌, ◌++◌, Bool, true, false, cond, not, ◌||◌, Option, Some, None, Contains, refl, sym, ap, subst, ◌∙◌, eqb, ◌==◌, arith}
-use Rattle.std.specs.Prelude.{nat_eq, filter}
-use Rattle.std.specs.List.{list_any, flat_map}
+use Rattle.std.proofs.Common.{◌≡◌, inl, inr, ℕ, ◌+◌, ◌<◌, length, get_or, take, drop, append_assoc, List, [], ◌∷◌, ◌++◌, Bool, true, false, cond, not, ◌||◌, ◌&&◌, Option, Some, None, Contains, refl, sym, ap, subst, ◌∙◌, eqb, ◌==◌, arith}
+use Rattle.std.specs.Prelude.{filter}
+use Rattle.std.specs.List.{flat_map}
 use Rattle.std.specs.Ordering.{nat_cmp}
 use Rattle.std.specs.BTreeMap.{insert_entry}
 use Rattle.std.specs.Cmp.{nat_eq_equiv}
@@ -12,7 +12,7 @@ use Rattle.ax_base.specs.declared.role.Role.{Role}
 use Rattle.ax_base.specs.declared.states.Live.{Live}
 use Rattle.ax_base.specs.Characters.{Chars}
 use Rattle.ax_base.specs.AccessibleNames.{name_of, description_of}
-use Rattle.ax_base.specs.Document.{Document, Spot, has, spot, body, root}
+use Rattle.ax_base.specs.Document.{Document, has, spot, body, root}
 use Rattle.ax_base.specs.Rects.{HasRectsWithin}
 use Rattle.ax_base.specs.Context.{is_out, live_at}
 use Rattle.ax_base.specs.Roles.{role, role_of, ignored}
@@ -22,12 +22,11 @@ use Rattle.ax_base.specs.Kids.{kids, objects}
 use Rattle.ax_base.proofs.Lookups.{finds_is, lookup-insert_entry}
 use Rattle.ax_base.proofs.Joins.{Contains-cases, Contains-flat_map, in_flat_map}
 use Rattle.ax_base.proofs.Membership.{Contains-head}
-use Rattle.ax_base.proofs.Objects.{objects_known, objects_shown, objects_hung, root_is_object, kids_are_objects}
-use Rattle.ax_dom.specs.Among.{is_in, IsClosedUp}
+use Rattle.ax_base.proofs.Objects.{objects_known, objects_shown, kids_are_objects}
+use Rattle.ax_dom.specs.Among.{is_in}
 use Rattle.ax_dom.specs.declared.cell.Cell.{Cell}
 use Rattle.ax_dom.specs.Slots.{cell_of, cell_at}
-use Rattle.ctx_pass.specs.declared.contexts.Context.{Context}
-use Rattle.ctx_pass.specs.Contexts.{context_of}
+use Rattle.ax_roles.specs.Inclusion.{inclusion_by, is_object_by, inclusion}
 use Rattle.ax_fresh.specs.Contents.{record_by}
 use Rattle.ax_fresh.specs.Gathering.{with_records}
 use Rattle.ax_fresh.proofs.Put.{with_records-append}
@@ -35,16 +34,15 @@ use Rattle.ax_record.specs.declared.record.Record.{Record}
 use Rattle.ax_record.specs.Tree.{Tree, entry_at, record_at, kids_of, IsKid}
 use Rattle.ax_record.specs.ObjectTrees.{IsObjectTree}
 use Rattle.ax_record.specs.Records.{tree, record_of, holder, is_object, frame_of, chars_of, runs_of}
-use Rattle.ax_record.proofs.TreeOf.{object_is, is_one, record_is, kids_are, kid_is, tree_hangs}
+use Rattle.ax_record.proofs.TreeOf.{object_is, is_one, record_is, kids_are, kid_is}
 use Rattle.tree_diff.specs.Alike.{IsAlike}
 use Rattle.tree_diff.specs.Lost.{lost}
-use Rattle.tree_diff.specs.Candidates.{hung_on, is_renewed_kid, renewed_kids, candidates, IsSortedFrom}
-use Rattle.tree_diff.proofs.Covering.{in_left, in_right, either_side, kids_closed}
+use Rattle.tree_diff.specs.Candidates.{hung_on, is_moved, moved_kids, candidates, IsSortedFrom}
+use Rattle.tree_diff.proofs.Covering.{in_left, in_right, either_side}
 use Rattle.tree_diff.proofs.Gone.{lost_gone}
 use Rattle.tree_diff.proofs.Visible.{object_from, objects_visible}
-use Rattle.dirty_set.proofs.Edits.{kept_in}
 use Rattle.dirty_set.proofs.Firsts.{kept_cases}
-use Rattle.live_tree.specs.Remaking.{root_among, remade, AreHungOn}
+use Rattle.live_tree.specs.Remaking.{object_at, remade, IsOrderOf, AreHungOn, AreNotAmong}
 
 pub none_some : {X : Type 0} (x : X) → None ≡ Some x → ⊥
 none_some x e = cc
@@ -76,9 +74,14 @@ made_of d n c of at above below name description is role_is live_is above_is bel
     let whole : of ≡ role_of (n == root) (body d n) = role_is ∙ ap (λ (x : Cell). role_of (n == root) x.body) is in
     λ i. record_by (is i) (whole i) (live_is i) (above_is i) (below_is i) (name_is i) (description_is i)
 
--- whether a node is out, by what is kept of it
-pub out_of : (d : Document) (n : ℕ) (here : Context) (b : Bool) → here ≡ context_of d n → b ≡ (here.hidden || here.pruned) → is_out d n ≡ b
-out_of d n here b at is = sym (is ∙ ap (λ (x : Context). x.hidden || x.pruned) at)
+-- those of some that moved are not among the nodes
+pub some_stay : (before : Tree) (ns : List ℕ) (n : ℕ) (ks all : List ℕ) → ks ≡ filter (is_moved before ns n) all → AreNotAmong ns ks
+some_stay before ns n ks all some k inside = off (hung_on before n k) (is_in ns k) refl (kept_cases (is_moved before ns n) all k (subst (λ l. Contains l k) some inside)).1
+  where
+    off : (a b : Bool) → is_in ns k ≡ b → (not a && not b) ≡ true → is_in ns k ≡ false
+    off true b is e = absurd (false≢true e)
+    off false true is e = absurd (false≢true e)
+    off false false is e = is
 
 -- one id more
 pub one_more : (old so_far after ns : List ℕ) (i x : ℕ) → i < length ns → x ≡ get_or ns i x → so_far ≡ old ++ take i ns → after ≡ so_far ++ x ∷ [] → after ≡ old ++ take (i + 1) ns
@@ -117,16 +120,25 @@ module _ (d : Document) (t : IsTree d) where
   pub gone_none : (n : ℕ) → has d n ≡ false → is_object d n ≡ false
   gone_none n gone = no_object n (λ object. false≢true (sym gone ∙ objects_known d t n object))
 
-  pub out_none : (n : ℕ) → is_out d n ≡ true → is_object d n ≡ false
+  out_none : (n : ℕ) → is_out d n ≡ true → is_object d n ≡ false
   out_none n out = no_object n (λ object. false≢true (sym (objects_visible d t n object) ∙ out))
 
   -- a node that is there and not out is an object, unless it is ignored
-  pub shown_one : (n : ℕ) → has d n ≡ true → is_out d n ≡ false → is_object d n ≡ not (ignored (spot d n))
+  shown_one : (n : ℕ) → has d n ≡ true → is_out d n ≡ false → is_object d n ≡ not (ignored (spot d n))
   shown_one n there visible = go (ignored (spot d n)) refl
     where
       go : (b : Bool) → ignored (spot d n) ≡ b → is_object d n ≡ not b
       go true is = no_object n (λ object. false≢true (sym (objects_shown d t n object) ∙ is))
       go false shown = is_one d t n (object_from d t n there visible shown)
+
+  -- whether it is one tells how it takes part
+  pub included_one : (n : ℕ) → has d n ≡ true → is_object d n ≡ is_object_by (inclusion d n)
+  included_one n there = go (is_out d n) (ignored (spot d n)) refl refl
+    where
+      go : (a b : Bool) → is_out d n ≡ a → ignored (spot d n) ≡ b → is_object d n ≡ is_object_by (inclusion_by a b)
+      go true b out is = out_none n out
+      go false true visible is = shown_one n there visible ∙ ap not is
+      go false false visible is = shown_one n there visible ∙ ap not is
 
   kid_of : (n k : ℕ) → Contains (objects d) n → Contains (kids d n) k → IsKid (tree d) n k
   kid_of n k one kid = subst (λ l. Contains l k) (sym (kids_are d t n ∙ ap (λ b. cond b (kids d n) []) (is_one d t n one))) kid
@@ -170,45 +182,45 @@ module _ (d : Document) (t : IsTree d) where
       go true false e = ap (λ j. Some (record_of d j)) (sym (eqb-true q k e))
       go false b e = refl
 
-  module _ (before : Tree) (ns : List ℕ) (closed : IsClosedUp d ns) where
+  module _ (before : Tree) (ns down : List ℕ) (ordered : IsOrderOf d ns down) where
+    abbrev shown : List ℕ
+    shown = flat_map (object_at d) down
+
     abbrev below : List ℕ
-    below = flat_map (renewed_kids before d ns) ns
+    below = flat_map (moved_kids before d ns) ns
 
     abbrev gone : List ℕ
     gone = flat_map (lost before d) ns
-
-    among : (n : ℕ) → is_in ns n ≡ true → Contains ns n
-    among n on = Contains-from_any eqb-true n ns on
 
     is_among : (n : ℕ) → Contains ns n → is_in ns n ≡ true
     is_among n inside = list_any-from_Contains nat_eq_equiv n ns inside
 
     -- what is made anew is an object
-    remade_object : (n : ℕ) → Contains (remade before d ns) n → Contains (objects d) n
-    remade_object n inside = elim (either_side (root_among ns) below n inside) [
-      | inl first ↦ by_root (is_in ns root) first
+    remade_object : (n : ℕ) → Contains (remade before d ns down) n → Contains (objects d) n
+    remade_object n inside = elim (either_side shown below n inside) [
+      | inl first ↦ (let r = in_flat_map (object_at d) down n first in by_node r.0 (is_object d r.0) refl r.2)
       | inr more ↦
-          (let r = in_flat_map (renewed_kids before d ns) ns n more in
-          let k = kid_is d t r.0 n (kept_cases (is_renewed_kid before ns r.0) (kids_of (tree d) r.0) n r.2).0 in
+          (let r = in_flat_map (moved_kids before d ns) ns n more in
+          let k = kid_is d t r.0 n (kept_cases (is_moved before ns r.0) (kids_of (tree d) r.0) n r.2).0 in
           kids_are_objects d t r.0 n k.0 k.1)
     ]
       where
-        by_root : (b : Bool) → Contains (cond b (root ∷ []) []) n → Contains (objects d) n
-        by_root true first = elim (Contains-cases n root [] first) [ inl is ↦ subst (Contains (objects d)) is (root_is_object d t) | inr none ↦ absurd (omega arith) ]
-        by_root false none = absurd (omega arith)
+        by_node : (m : ℕ) (b : Bool) → is_object d m ≡ b → Contains (cond b (m ∷ []) []) n → Contains (objects d) n
+        by_node m true on first = elim (Contains-cases n m [] first) [ inl is ↦ subst (Contains (objects d)) is (object_is d t m on) | inr none ↦ absurd (omega arith) ]
+        by_node m false off none = absurd (omega arith)
+
+    -- an object among the nodes is made anew
+    node_remade : (n : ℕ) → is_in ns n ≡ true → Contains (objects d) n → Contains shown n
+    node_remade n on object =
+        Contains-flat_map (object_at d) down n n (Contains-from_any eqb-true n down (ordered.same n ∙ on))
+        (subst (λ b. Contains (cond b (n ∷ []) []) n) (sym (is_one d t n object)) (Contains-head n []))
 
     -- an object that is a candidate is made anew
-    object_remade : IsObjectTree before → (n : ℕ) → Contains (candidates before d ns) n → Contains (objects d) n → Contains (remade before d ns) n
+    object_remade : IsObjectTree before → (n : ℕ) → Contains (candidates before d ns) n → Contains (objects d) n → Contains (remade before d ns down) n
     object_remade hangs n inside object = elim (either_side ns (below ++ gone) n inside) [
-      | inl node ↦ (elim (objects_hung d t n object) [
-        | inl is ↦ in_left (root_among ns) below n (subst (λ b. Contains (cond b (root ∷ []) []) n) (sym (ap (is_in ns) is ∙ is_among n node)) (subst (Contains (root ∷ [])) is (Contains-head root [])))
-        | inr (p, up, kid) ↦
-            in_right (root_among ns) below n
-            (Contains-flat_map (renewed_kids before d ns) ns p n (among p (kids_closed d t ns closed (64 - t.level p) p n (omega arith) kid (is_among n node)))
-            (kept_in (is_renewed_kid before ns p) (kids_of (tree d) p) n (kid_of p n up kid) (ap (λ b. b || not (hung_on before p n)) (is_among n node))))
-      ])
+      | inl node ↦ in_left shown below n (node_remade n (is_among n node) object)
       | inr more ↦ (elim (either_side below gone n more) [
-        | inl hung ↦ in_right (root_among ns) below n hung
+        | inl hung ↦ in_right shown below n hung
         | inr none ↦ (let r = in_flat_map (lost before d) ns n none in absurd (false≢true (sym (lost_gone before d hangs r.0 n r.2) ∙ objects_known d t n object)))
       ])
     ]
@@ -219,12 +231,12 @@ module _ (d : Document) (t : IsTree d) where
     agree false false there back = refl
 
     -- at each candidate is found what the tree has there
-    pub remade_found : IsObjectTree before → (ids : List ℕ) → IsSortedFrom (candidates before d ns) ids → (n : ℕ) → Contains ids n → entry_at (with_records d [] (remade before d ns)) n ≡ record_at (tree d) n
+    pub remade_found : IsObjectTree before → (ids : List ℕ) → IsSortedFrom (candidates before d ns) ids → (n : ℕ) → Contains ids n → entry_at (with_records d [] (remade before d ns down)) n ≡ record_at (tree d) n
     remade_found hangs ids sorted n inside =
-        found_after n [] (remade before d ns)
-        ∙ ap (λ b. cond b (Some (record_of d n)) None) (agree (is_in (remade before d ns) n) (is_object d n)
-        (λ on. is_one d t n (remade_object n (Contains-from_any eqb-true n (remade before d ns) on)))
-        (λ on. list_any-from_Contains nat_eq_equiv n (remade before d ns) (object_remade hangs n (sorted.only n inside) (object_is d t n on))))
+        found_after n [] (remade before d ns down)
+        ∙ ap (λ b. cond b (Some (record_of d n)) None) (agree (is_in (remade before d ns down) n) (is_object d n)
+        (λ on. is_one d t n (remade_object n (Contains-from_any eqb-true n (remade before d ns down) on)))
+        (λ on. list_any-from_Contains nat_eq_equiv n (remade before d ns down) (object_remade hangs n (sorted.only n inside) (object_is d t n on))))
         ∙ sym (record_is d t n)
 
 -- one object that hangs on another, as a list

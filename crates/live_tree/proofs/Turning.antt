@@ -2,7 +2,6 @@
 use Rattle.std.proofs.Common.{◌≡◌, ℕ, List, [], Option, Contains, sym, ap, subst, ◌∙◌}
 use Rattle.ax_base.specs.Document.{Document}
 use Rattle.ax_base.specs.Trees.{IsTree}
-use Rattle.ax_dom.specs.Among.{IsClosedUp}
 use Rattle.ax_fresh.specs.Gathering.{with_records}
 use Rattle.ax_notice.specs.Candidates.{AreCandidates}
 use Rattle.ax_record.specs.declared.record.Record.{Record}
@@ -14,18 +13,18 @@ use Rattle.tree_diff.specs.Alike.{AreAlikeBut}
 use Rattle.tree_diff.specs.Candidates.{candidates, IsSortedFrom, HaveAllDiffering}
 use Rattle.live_tree.specs.Living.{WasAlike, LeadsTo}
 use Rattle.kept_tree.specs.Renewing.{TwoTrees, renewed_tree}
-use Rattle.live_tree.specs.Remaking.{remade}
+use Rattle.live_tree.specs.Remaking.{remade, IsOrderOf}
 use Rattle.kept_tree.proofs.Overlaying.{renewed_is}
 use Rattle.live_tree.proofs.Remaking.{remade_found}
 
-module _ (kept : Tree) (d : Document) (t : IsTree d) (ns : List ℕ) (closed : IsClosedUp d ns) (hangs : IsObjectTree kept) (was : WasAlike kept d ns)
-    (fresh : List (ℕ × Record)) (ids : List ℕ) (focus : Option ℕ) (made : fresh ≡ with_records d [] (remade kept d ns)) (sorted : IsSortedFrom (candidates kept d ns) ids) (focused : focus ≡ focused_object d)
+module _ (kept : Tree) (d : Document) (t : IsTree d) (ns down : List ℕ) (ordered : IsOrderOf d ns down) (hangs : IsObjectTree kept) (was : WasAlike kept d ns)
+    (fresh : List (ℕ × Record)) (ids : List ℕ) (focus : Option ℕ) (made : fresh ≡ with_records d [] (remade kept d ns down)) (sorted : IsSortedFrom (candidates kept d ns) ids) (focused : focus ≡ focused_object d)
     (differ : (old : Document) → IsTree old → kept ≡ tree old → AreAlikeBut old d ns → HaveAllDiffering kept (tree d) ids) where
   have_all : HaveAllDiffering kept (tree d) ids
   have_all = differ was.flushed was.was_tree was.shows was.alike
 
   found : (n : ℕ) → Contains ids n → entry_at fresh n ≡ record_at (tree d) n
-  found n inside = ap (λ es. entry_at es n) made ∙ remade_found d t kept ns closed hangs ids sorted n inside
+  found n inside = ap (λ es. entry_at es n) made ∙ remade_found d t kept ns down ordered hangs ids sorted n inside
 
   entries_are : (renewed_tree kept fresh ids focus).entries ≡ (tree d).entries
   entries_are = renewed_is kept.entries (tree d).entries fresh ids hangs.rising (tree_hangs d t).rising found have_all.all

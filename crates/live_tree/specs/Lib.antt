@@ -1,3 +1,4 @@
 pub mod LiveTrees
 pub mod Living
+pub mod Hosts
 pub mod Remaking

@@ -52,6 +52,7 @@ HasFocusAmong d ns = (n : ℕ) → d.focus ≡ Some n → is_in ns n ≡ true
 
 -- A tree is that of a document which is alike at each node but some, which rise and have with each node its parent, and the focused one, and what is kept of each other node is right.
 pub record IsRightBut (kept : Tree) (now : Document) (p : Passes) (ns : List ℕ) : Type 0 where
+  pub known : (n : ℕ) → is_in ns n ≡ true → has now n ≡ true
   pub rising : IsStrictlyIncreasing ns
   pub closed : IsClosedUp now ns
   pub focus : HasFocusAmong now ns

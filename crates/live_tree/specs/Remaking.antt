@@ -1,24 +1,31 @@
 -- The objects of which a record is made anew.
-use Rattle.std.specs.Prelude.{ℕ, ◌+◌, List, [], ◌∷◌, ◌++◌, if◌then◌else◌, flat_map, Some, Contains}
-use Rattle.ax_base.specs.Document.{Document, root}
+use Rattle.std.specs.Prelude.{◌≡◌, ◌≤◌, ℕ, false, length, List, [], ◌∷◌, ◌++◌, if◌then◌else◌, flat_map, Contains}
+use Rattle.ax_base.specs.Document.{Document}
 use Rattle.ax_base.specs.Kids.{kids, objects}
 use Rattle.ax_dom.specs.Among.{is_in}
 use Rattle.ax_record.specs.Tree.{Tree}
-use Rattle.ctx_pass.specs.Passes.{count}
-use Rattle.tree_diff.specs.Candidates.{renewed_kids}
+use Rattle.ax_record.specs.Records.{is_object}
+use Rattle.node_order.specs.Orders.{IsFromAbove}
+use Rattle.tree_diff.specs.Candidates.{moved_kids}
 
--- the root, where it is among some nodes
-abbrev pub root_among : List ℕ → List ℕ
-root_among ns = if is_in ns root then root ∷ [] else []
+-- a node, where it is an object
+abbrev pub object_at : Document → ℕ → List ℕ
+object_at d n = if is_object d n then n ∷ [] else []
 
--- the objects of which a record is made: the root, where it is among some nodes, and those that hang on one of the nodes and are among them or hung elsewhere before
-abbrev pub remade : Tree → Document → List ℕ → List ℕ
-remade before d ns = root_among ns ++ flat_map (renewed_kids before d ns) ns
+-- the objects of which a record is made: those among some nodes, which are listed from above, and those that hang on one of these but hung elsewhere before
+abbrev pub remade : Tree → Document → List ℕ → List ℕ → List ℕ
+remade before d ns down = flat_map (object_at d) down ++ flat_map (moved_kids before d ns) ns
+
+-- Nodes in an order from above are some nodes, and no more.
+pub record IsOrderOf (d : Document) (ns down : List ℕ) : Type 0 where
+  pub order : IsFromAbove d down
+  pub same : (n : ℕ) → is_in down n ≡ is_in ns n
+  pub few : length down ≤ length ns
 
 -- each of some hangs on n, which is an object
 abbrev pub AreHungOn : Document → ℕ → List ℕ → Type 0
 AreHungOn d n ks = Contains (objects d) n × ((k : ℕ) → Contains ks k → Contains (kids d n) k)
 
--- how many reads are made at one of some nodes: its own, and one for each kid of it that is renewed and among them
-abbrev pub reads_at : Tree → Document → List ℕ → ℕ → ℕ
-reads_at before d ns n = 1 + count (Some ns) (renewed_kids before d ns n)
+-- none of some is among others
+abbrev pub AreNotAmong : List ℕ → List ℕ → Type 0
+AreNotAmong ns ks = (k : ℕ) → Contains ks k → is_in ns k ≡ false

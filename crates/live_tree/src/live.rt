@@ -29,6 +29,7 @@ use ax_notice::notices_among;
 use ax_record::{Record, TreeView};
 use kept_tree::{KeptTree, RenewedTree};
 use marked_dom::{MarkedDom, UnmarkedDom};
+use node_order::from_above;
 use std::alloc::Global;
 use std::marker::{Brand, Model};
 use std::sync::ledger::{Blank, Ledger};
@@ -123,7 +124,7 @@ impl LiveTree {
         Ok(())
     }
 
-    /// Brings the tree to the present document, for a moment of that number. It counts the reads of the document: sixteen at
+    /// Brings the tree to the present document, for a moment of that number. It counts the reads of the document: fifteen at
     /// most of what the marks weigh, at `Err` too. At `Err` the live tree is given up.
     pub fn flush<L: Ledger>(
         self,
@@ -134,7 +135,7 @@ impl LiveTree {
         ensures tree { IfOk result (λ r. r.0 ≡ unmarked (tree self.document) self.document) }
         ensures batch { IfOk result (λ r. r.1.batch ≡ batch_between self.flushed (tree self.document)) }
         ensures notices { IfOk result (λ r. r.1.notices ≡ notices_between self.flushed (tree self.document) moment) }
-        ensures counted { steps.new ≤ steps.old + 16 * weight self.document self.marks }
+        ensures counted { steps.new ≤ steps.old + 15 * weight self.document self.marks }
     {
         let LiveTree {
             flushed: kept,
@@ -154,7 +155,7 @@ impl LiveTree {
 }
 
 /// The tree of a document and what is kept of its nodes, made of those of an earlier document that is alike at each node
-/// but some; and what differs, and what is told of it. It reads each of these nodes thirteen times at most, and no other.
+/// but some; and what differs, and what is told of it. It reads each of these nodes twelve times at most, and no other.
 fn renewed<L: Ledger>(
     alloc: Global,
     kept: KeptTree,
@@ -169,12 +170,15 @@ fn renewed<L: Ledger>(
     ensures passes { IfOk result (λ r. ArePassesOf dom.now r.1) }
     ensures batch { IfOk result (λ r. r.2.batch ≡ batch_between kept (tree dom.now)) }
     ensures notices { IfOk result (λ r. r.2.notices ≡ notices_between kept (tree dom.now) moment) }
-    ensures counted { steps.new ≤ steps.old + 13 * length reach.now }
+    ensures counted { steps.new ≤ steps.old + 12 * length reach.now }
 {
     let now = dom.document();
     now.keeps_tree();
-    let passes = passes.renew(alloc, now, dom.index(), reach, steps)?;
-    let turned = renewed_tree(alloc, kept, now, &passes, reach.as_slice(), steps)?;
+    let nodes = reach.as_slice();
+    let order = from_above(alloc, now, nodes, steps)?;
+    let down = order.as_slice();
+    let passes = passes.renew(alloc, now, dom.index(), down, steps)?;
+    let turned = renewed_tree(alloc, kept, now, &passes, nodes, down, steps)?;
     let sent = told(alloc, &turned, moment)?;
     let settled = turned.settle()?;
     Ok((settled, passes, sent))

@@ -1,13 +1,11 @@
 //! What is kept of each node of the document.
-ghost use Rattle.std.specs.Prelude.{◌≡◌, ◌<◌, ◌≤◌, ◌+◌, ◌*◌, Some, IfOk};
-ghost use Rattle.std.specs.List.Sorted.{IsStrictlyIncreasing};
-ghost use Rattle.ax_base.specs.Document.{order};
-ghost use Rattle.ax_dom.specs.Among.{IsClosedUp};
-ghost use Rattle.ctx_pass.specs.Passes.{count};
+ghost use Rattle.std.specs.Prelude.{◌≡◌, ◌<◌, ◌≤◌, ◌+◌, ◌*◌, length, IfOk};
 ghost use Rattle.dom_ids.specs.Index.{IsIndexOf};
+ghost use Rattle.node_order.specs.Orders.{IsFromAbove};
 ghost use Rattle.live_tree.specs.Living.{ArePassesOf, ArePassesBut};
 
-use ax_base::{Ids, NoMemory, Steps};
+use crate::whole::all_from_above;
+use ax_base::{NoMemory, ObjId, Steps};
 use ax_dom::Dom;
 use ctx_pass::Contexts;
 use dom_ids::IdIndex;
@@ -36,41 +34,39 @@ impl Passes {
         requires ids { IsIndexOf dom.now ids.now }
         ensures { IfOk result (λ p. ArePassesOf dom.now p) }
     {
-        let contexts = Contexts::new(alloc, dom, steps)?;
-        let kids = Kids::new(alloc, dom, &contexts, steps)?;
-        let saids = Saids::new(alloc, dom, ids, &contexts, steps)?;
-        Ok(Passes {
-            contexts,
-            kids,
-            saids,
-        })
+        let all = all_from_above(alloc, dom, steps)?;
+        let none = Passes {
+            contexts: Contexts::new(alloc),
+            kids: Kids::new(alloc),
+            saids: Saids::new(alloc),
+        };
+        none.renew(alloc, dom, ids, all.as_slice(), steps)
     }
 
-    /// Those of a document, where those of all nodes outside of `reach` are kept already. It reads each node of `reach` eight
-    /// times. At an error what was kept is given up.
+    /// Those of a document, where those of all nodes that are not in `down` are kept already. It reads each node of `down`,
+    /// which are in an order from above, seven times at most. At an error what was kept is given up.
     pub(crate) fn renew<L: Ledger>(
         self,
         alloc: Global,
         dom: &Dom,
         ids: &IdIndex,
-        reach: &Ids,
+        down: &[ObjId],
         steps: &mut Steps<L>,
     ) -> Result<Passes, NoMemory>
         requires ids { IsIndexOf dom.now ids.now }
-        requires rising { IsStrictlyIncreasing reach.now }
-        requires closed { IsClosedUp dom.now reach.now }
-        requires others { ArePassesBut dom.now self reach.now }
+        requires order { IsFromAbove dom.now down.now }
+        requires others { ArePassesBut dom.now self down.now }
         ensures value { IfOk result (λ p. ArePassesOf dom.now p) }
-        ensures counted { steps.new ≤ steps.old + 8 * count (Some reach.now) (order dom.now) }
+        ensures counted { steps.new ≤ steps.old + 7 * length down.now }
     {
         let Passes {
             contexts,
             kids,
             saids,
         } = self;
-        let contexts = contexts.renew(dom, reach, steps)?;
-        let kids = kids.renew(alloc, dom, &contexts, reach, steps)?;
-        let saids = saids.renew(alloc, dom, ids, &contexts, reach, steps)?;
+        let contexts = contexts.renew(dom, down, steps)?;
+        let kids = kids.renew(alloc, dom, &contexts, down, steps)?;
+        let saids = saids.renew(alloc, dom, ids, &contexts, down, steps)?;
         Ok(Passes {
             contexts,
             kids,

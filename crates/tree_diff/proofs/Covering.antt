@@ -1,5 +1,5 @@
 -- Candidates have each id at which the trees differ, and with each object the one that it hangs on.
-use Rattle.std.proofs.Common.{◌≡◌, ◌⊎◌, inl, inr, ℕ, zero, suc, ◌-◌, ◌≤◌, List, [], ◌∷◌, ◌++◌, Bool, true, false, cond, not, ◌||◌, Option, Some, None, Contains, refl, sym, ap, subst, ◌∙◌, arith}
+use Rattle.std.proofs.Common.{◌≡◌, ◌⊎◌, inl, inr, ℕ, zero, suc, ◌-◌, ◌≤◌, List, [], ◌∷◌, ◌++◌, Bool, true, false, cond, not, ◌&&◌, Option, Some, None, Contains, refl, sym, ap, subst, ◌∙◌, arith}
 use Rattle.std.specs.Prelude.{nat_eq, filter}
 use Rattle.std.specs.Option.{option_eq, option_and_then}
 use Rattle.std.specs.List.{flat_map}
@@ -25,7 +25,7 @@ use Rattle.ax_record.proofs.Equalities.{option_equality}
 use Rattle.ax_record.proofs.TreeOf.{kids_are, is_one, object_is, kid_is, record_is, holder_is, tree_hangs}
 use Rattle.tree_diff.specs.Alike.{AreAlikeBut}
 use Rattle.tree_diff.specs.Lost.{lost}
-use Rattle.tree_diff.specs.Candidates.{is_renewed_kid, renewed_kids, candidates, IsSortedFrom, HaveAllDiffering}
+use Rattle.tree_diff.specs.Candidates.{is_moved, moved_kids, candidates, IsSortedFrom, HaveAllDiffering}
 use Rattle.tree_diff.proofs.Differs.{found_or_same, same_held, never}
 use Rattle.tree_diff.proofs.Gone.{gone_found, lost_gone}
 
@@ -136,35 +136,35 @@ module _ (old now : Document) (t : IsTree old) (u : IsTree now) (ns : List ℕ) 
       gone : has now n ≡ false → (b : Bool) → is_object old n ≡ b → Contains all n ⊎ (record_at (tree old) n ≡ record_at (tree now) n)
       gone lost_n true object =
           let f = gone_found old now t u ns alike n (object_is old t n object) lost_n in
-          inl (in_right ns (flat_map (renewed_kids (tree old) now ns) ns ++ flat_map (lost (tree old) now) ns) n
-          (in_right (flat_map (renewed_kids (tree old) now ns) ns) (flat_map (lost (tree old) now) ns) n (Contains-flat_map (lost (tree old) now) ns f.0 n (among f.0 f.1) f.2)))
+          inl (in_right ns (flat_map (moved_kids (tree old) now ns) ns ++ flat_map (lost (tree old) now) ns) n
+          (in_right (flat_map (moved_kids (tree old) now ns) ns) (flat_map (lost (tree old) now) ns) n (Contains-flat_map (lost (tree old) now) ns f.0 n (among f.0 f.1) f.2)))
       gone lost_n false none = inr (never old now t u ns alike n lost_n none)
 
-      -- a kid that is not renewed hangs on what it hung on
+      -- a kid that did not move hangs on what it hung on
       by_kid : (p : ℕ) → Contains (objects now) p → Contains (kids now p) n → is_in ns p ≡ true → (a b : Bool) → is_in ns n ≡ a → option_eq nat_eq (parent_of (tree old) n) (Some p) ≡ b → Contains all n ⊎ (record_at (tree old) n ≡ record_at (tree now) n)
-      by_kid p up kid on true b node was = inl (in_left ns (flat_map (renewed_kids (tree old) now ns) ns ++ flat_map (lost (tree old) now) ns) n (among n node))
+      by_kid p up kid on true b node was = inl (in_left ns (flat_map (moved_kids (tree old) now ns) ns ++ flat_map (lost (tree old) now) ns) n (among n node))
       by_kid p up kid on false true off was = inr (same_held old now t u ns alike n (kids_known now u p n kid, off) (held_before n p was ∙ sym (holder_is now u p n up kid)))
       by_kid p up kid on false false off was =
-          inl (in_right ns (flat_map (renewed_kids (tree old) now ns) ns ++ flat_map (lost (tree old) now) ns) n
-          (in_left (flat_map (renewed_kids (tree old) now ns) ns) (flat_map (lost (tree old) now) ns) n
-          (Contains-flat_map (renewed_kids (tree old) now ns) ns p n (among p on) (kept_by (is_renewed_kid (tree old) ns p) (kids_of (tree now) p) n (hung_now p n up kid) (λ i. off i || not (was i))))))
+          inl (in_right ns (flat_map (moved_kids (tree old) now ns) ns ++ flat_map (lost (tree old) now) ns) n
+          (in_left (flat_map (moved_kids (tree old) now ns) ns) (flat_map (lost (tree old) now) ns) n
+          (Contains-flat_map (moved_kids (tree old) now ns) ns p n (among p on) (kept_by (is_moved (tree old) ns p) (kids_of (tree now) p) n (hung_now p n up kid) (λ i. not (was i) && not (off i))))))
 
       by_node : (b : Bool) → has now n ≡ b → Contains all n ⊎ (record_at (tree old) n ≡ record_at (tree now) n)
       by_node false lost_n = gone lost_n (is_object old n) refl
       by_node true there = elim (found_or_same old now t u ns alike n there) [
-        | inl on ↦ inl (in_left ns (flat_map (renewed_kids (tree old) now ns) ns ++ flat_map (lost (tree old) now) ns) n (among n on))
+        | inl on ↦ inl (in_left ns (flat_map (moved_kids (tree old) now ns) ns ++ flat_map (lost (tree old) now) ns) n (among n on))
         | inr (inl (p, up, kid, on)) ↦ by_kid p up kid on (is_in ns n) (option_eq nat_eq (parent_of (tree old) n) (Some p)) refl refl
         | inr (inr same) ↦ inr same
       ]
 
   -- what a candidate hangs on is a candidate
   pub up : (p k : ℕ) → IsKid (tree now) p k → Contains all k → Contains all p
-  up p k kid inside = in_left ns (flat_map (renewed_kids (tree old) now ns) ns ++ flat_map (lost (tree old) now) ns) p (elim (either_side ns _ k inside) [
+  up p k kid inside = in_left ns (flat_map (moved_kids (tree old) now ns) ns ++ flat_map (lost (tree old) now) ns) p (elim (either_side ns _ k inside) [
     | inl node ↦ among p (kids_closed now u ns closed (64 - u.level p) p k (omega arith) (kid_is now u p k kid).1 (is_among k node))
-    | inr more ↦ (elim (either_side (flat_map (renewed_kids (tree old) now ns) ns) _ k more) [
+    | inr more ↦ (elim (either_side (flat_map (moved_kids (tree old) now ns) ns) _ k more) [
       | inl below ↦
-          (let r = in_flat_map (renewed_kids (tree old) now ns) ns k below in
-          subst (Contains ns) ((tree_hangs now u).one_list r.0 p k (kept_from (is_renewed_kid (tree old) ns r.0) (kids_of (tree now) r.0) k r.2) kid) r.1)
+          (let r = in_flat_map (moved_kids (tree old) now ns) ns k below in
+          subst (Contains ns) ((tree_hangs now u).one_list r.0 p k (kept_from (is_moved (tree old) ns r.0) (kids_of (tree now) r.0) k r.2) kid) r.1)
       | inr none ↦
           (let r = in_flat_map (lost (tree old) now) ns k none in
           absurd (false≢true (sym (lost_gone (tree old) now (tree_hangs old t) r.0 k r.2) ∙ kids_known now u p k (kid_is now u p k kid).1)))
@@ -192,7 +192,7 @@ candidates_told before now u ns ids closed sorted old t is alike = record {
 }
 
 -- what is gathered, sorted, are the candidates
-pub gathered_from : (before : Tree) (now : Document) (ns kids lost_more more sorted : List ℕ) → kids ≡ flat_map (renewed_kids before now ns) ns → lost_more ≡ kids ++ flat_map (lost before now) ns → more ≡ lost_more ++ ns → IsSortedFrom more sorted
+pub gathered_from : (before : Tree) (now : Document) (ns kids lost_more more sorted : List ℕ) → kids ≡ flat_map (moved_kids before now ns) ns → lost_more ≡ kids ++ flat_map (lost before now) ns → more ≡ lost_more ++ ns → IsSortedFrom more sorted
     → IsSortedFrom (candidates before now ns) sorted
 gathered_from before now ns kids lost_more more sorted is then last from = record {
   rising = from.rising;
@@ -201,7 +201,7 @@ gathered_from before now ns kids lost_more more sorted is then last from = recor
 }
   where
     below : List ℕ
-    below = flat_map (renewed_kids before now ns) ns
+    below = flat_map (moved_kids before now ns) ns
 
     gone : List ℕ
     gone = flat_map (lost before now) ns

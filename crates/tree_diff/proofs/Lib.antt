@@ -6,4 +6,4 @@ pub mod Covering
 pub mod Among
 pub mod Sorting
 pub mod Splicing
-pub mod Renewing
+pub mod Moving

@@ -4,7 +4,8 @@ use Rattle.std.specs.Prelude.{nat_eq}
 use Rattle.std.specs.Cmp.Lexicographic.{pointwise, same_text}
 use Rattle.std.proofs.lemmas.Bool.{false≢true, eqb-true}
 use Rattle.std.proofs.lemmas.List.{take-append-drop, drop-drop, drop_more}
-use Rattle.std.proofs.lemmas.List.Elements.{Contains-append_left, Contains-append_right, Contains-get_or}
+use Rattle.std.proofs.lemmas.List.Elements.{Contains-append_left, Contains-append_right, Contains-append_cases, Contains-get_or}
+use Rattle.std.proofs.Math.Seq.{take-add}
 use Rattle.ax_base.proofs.Joins.{Contains-cases}
 use Rattle.tree_diff.specs.Splices.{AreSharedBut}
 
@@ -55,3 +56,28 @@ one_earlier ids others at k behind j x y low here next far is other found shared
       | inl first ↦ subst (Contains others) (sym other ∙ sym (not_apart x y found) ∙ is ∙ first) (Contains-get_or others j y far)
       | inr more ↦ shared n (subst (λ m. Contains (drop m ids) n) (sym next) more)
     ]
+
+-- one block more that is the same, from the start on
+pub block_more : (ids others : List ℕ) (at next size k j : ℕ) → next ≡ at + size → k ≡ size → j ≡ size → take at ids ≡ take at others → true ≡ pointwise nat_eq (take k (drop at ids)) (take j (drop at others)) → take next ids ≡ take next others
+block_more ids others at next size k j here one other before found =
+    ap (λ n. take n ids) here ∙ take-add at size ids ∙ (λ i. before i ++ same i) ∙ sym (take-add at size others) ∙ ap (λ n. take n others) (sym here)
+  where
+    same : take size (drop at ids) ≡ take size (drop at others)
+    same = ap (λ n. take n (drop at ids)) (sym one) ∙ same_text (take k (drop at ids)) (take j (drop at others)) found ∙ ap (λ n. take n (drop at others)) other
+
+in_part : (size at : ℕ) (xs : List ℕ) (n : ℕ) → Contains (take size (drop at xs)) n → Contains xs n
+in_part size at xs n inside = subst (λ l. Contains l n) (take-append-drop at xs) (Contains-append_right (take at xs) (drop at xs) n (from_start size (drop at xs) n inside))
+
+-- one block more from behind, which is in the other list
+pub block_earlier : (ids others : List ℕ) (at behind size i j a b : ℕ) → behind ≡ at + size → a ≡ size → i ≡ at → true ≡ pointwise nat_eq (take a (drop i ids)) (take b (drop j others))
+    → ((n : ℕ) → Contains (drop behind ids) n → Contains others n) → (n : ℕ) → Contains (drop at ids) n → Contains others n
+block_earlier ids others at behind size i j a b here size_is place found shared n inside = elim (Contains-append_cases (take size (drop at ids)) (drop behind ids) n (subst (λ l. Contains l n) parts inside)) [
+  | inl first ↦ in_part b j others n (subst (λ l. Contains l n) same first)
+  | inr more ↦ shared n more
+]
+  where
+    parts : drop at ids ≡ take size (drop at ids) ++ drop behind ids
+    parts = sym (take-append-drop size (drop at ids)) ∙ ap (λ l. take size (drop at ids) ++ l) (drop-drop size at ids ∙ ap (λ m. drop m ids) (sym here))
+
+    same : take size (drop at ids) ≡ take b (drop j others)
+    same = (λ k. take (sym size_is k) (drop (sym place k) ids)) ∙ same_text (take a (drop i ids)) (take b (drop j others)) found

@@ -1,5 +1,5 @@
 -- The ids at which trees can differ.
-use Rattle.std.specs.Prelude.{◌≡◌, ◌⊎◌, ℕ, Bool, not, ◌||◌, nat_eq, filter, List, ◌++◌, flat_map, Some, Contains}
+use Rattle.std.specs.Prelude.{◌≡◌, ◌⊎◌, ℕ, Bool, not, ◌&&◌, nat_eq, filter, List, ◌++◌, flat_map, Some, Contains}
 use Rattle.std.specs.Option.{option_eq}
 use Rattle.std.specs.List.Sorted.{IsStrictlyIncreasing}
 use Rattle.ax_base.specs.Document.{Document}
@@ -12,17 +12,17 @@ use Rattle.tree_diff.specs.Lost.{lost}
 abbrev pub hung_on : Tree → ℕ → ℕ → Bool
 hung_on before n k = option_eq nat_eq (parent_of before k) (Some n)
 
--- whether a kid of an object is among some nodes, or hung elsewhere before, or nowhere
-abbrev pub is_renewed_kid : Tree → List ℕ → ℕ → ℕ → Bool
-is_renewed_kid before ns n k = is_in ns k || not (hung_on before n k)
+-- whether a kid of an object hung elsewhere before, or nowhere, and is not among some nodes
+abbrev pub is_moved : Tree → List ℕ → ℕ → ℕ → Bool
+is_moved before ns n k = not (hung_on before n k) && not (is_in ns k)
 
--- the kids of an object that are among some nodes, or hung elsewhere before, or nowhere
-abbrev pub renewed_kids : Tree → Document → List ℕ → ℕ → List ℕ
-renewed_kids before now ns n = filter (is_renewed_kid before ns n) (kids_of (tree now) n)
+-- the kids of an object that hung elsewhere before, or nowhere, and are not among some nodes
+abbrev pub moved_kids : Tree → Document → List ℕ → ℕ → List ℕ
+moved_kids before now ns n = filter (is_moved before ns n) (kids_of (tree now) n)
 
--- the ids at which the tree of a document can differ from the one before, where only some nodes changed: these, the kids of these that are among them or hung elsewhere before, and what is gone from below these
+-- the ids at which the tree of a document can differ from the one before, where only some nodes changed: these, the kids of these that hung elsewhere before, and what is gone from below these
 abbrev pub candidates : Tree → Document → List ℕ → List ℕ
-candidates before now ns = ns ++ (flat_map (renewed_kids before now ns) ns ++ flat_map (lost before now) ns)
+candidates before now ns = ns ++ (flat_map (moved_kids before now ns) ns ++ flat_map (lost before now) ns)
 
 -- A list has the numbers of another, rising, each once.
 pub record IsSortedFrom (ns sorted : List ℕ) : Type 0 where

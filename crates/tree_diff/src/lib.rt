@@ -2,10 +2,10 @@
 #![tactic(auto)]
 
 mod batches;
+mod moved;
 mod places;
-mod renewed;
 mod splices;
 
 pub use batches::batch_among;
+pub use moved::moved_kids;
 pub use places::candidates;
-pub use renewed::renewed_kids;

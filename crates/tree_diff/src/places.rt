@@ -8,10 +8,10 @@ ghost use Rattle.ax_record.specs.Records.{tree};
 ghost use Rattle.kids_pass.specs.Kids.{AreKidsOf};
 ghost use Rattle.ax_notice.specs.Candidates.{AreCandidates};
 ghost use Rattle.tree_diff.specs.Alike.{AreAlikeBut};
-ghost use Rattle.tree_diff.specs.Candidates.{candidates, renewed_kids, IsSortedFrom, HaveAllDiffering};
+ghost use Rattle.tree_diff.specs.Candidates.{candidates, moved_kids, IsSortedFrom, HaveAllDiffering};
 ghost use Rattle.tree_diff.specs.Lost.{lost, lost_within, given_within};
 
-use crate::renewed::kids_before;
+use crate::moved::kids_before;
 use crate::splices::differing;
 use ax_base::{Ids, NoMemory, ObjId};
 use ax_dom::Dom;
@@ -22,25 +22,25 @@ use kids_pass::Kids;
 const LEVELS: u32 = 128;
 
 /// The ids at which the tree of a document can differ from the one before, rising, where each node that is not among
-/// some is as it was: these nodes, the objects that hang on these and are among them or hung elsewhere before, which are
-/// `renewed`, and what hung below these and is gone. It reads no node. Of what hung on a node it looks only those up that
+/// some is as it was: these nodes, the objects that hang on these but hung elsewhere before, which are `moved`, and what
+/// hung below these and is gone. It reads no node. Of what hung on a node it looks only those up that
 /// stand between the first and the last difference from `kids`, and it sorts what it found.
 pub fn candidates<T: TreeView>(
     before: &T,
     now: &Dom,
     kids: &Kids,
     nodes: &[ObjId],
-    renewed: Ids,
+    moved: Ids,
 ) -> Result<Ids, NoMemory>
     requires kids { AreKidsOf now.now kids.now }
-    requires renewed { renewed ≡ flat_map (renewed_kids (T.tree before.now) now.now nodes.now) nodes.now }
+    requires moved { moved ≡ flat_map (moved_kids (T.tree before.now) now.now nodes.now) nodes.now }
     requires closed { IsClosedUp now.now nodes.now }
     ensures value { IfOk result (λ ids. IsSortedFrom (candidates (T.tree before.now) now.now nodes.now) ids) }
     ensures differ { IfOk result (λ ids. (old : Document) → IsTree old → T.tree before.now ≡ tree old → AreAlikeBut old now.now nodes.now → HaveAllDiffering (T.tree before.now) (tree now.now) ids) }
     ensures told { IfOk result (λ ids. (old : Document) → IsTree old → T.tree before.now ≡ tree old → AreAlikeBut old now.now nodes.now → AreCandidates (T.tree before.now) (tree now.now) ids) }
 {
     now.keeps_tree();
-    let mut found = renewed;
+    let mut found = moved;
     push_lost_of(before, now, kids, nodes, &mut found)?;
     push_all(nodes, &mut found)?;
     let sorted = sorted_once(found);

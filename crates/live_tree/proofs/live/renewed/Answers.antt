@@ -1,34 +1,56 @@
-use Rattle.std.proofs.Common.{ap, subst, sym}
-use Rattle.ax_base.specs.Trees.{IsTree}
-use Rattle.ax_dom.specs.Among.{IsClosedUp}
-use Rattle.live_tree.specs.Living.{ArePassesOf, IsPresent}
-use Rattle.live_tree.proofs.Flushing.{is_present, passes_read, all_read}
+use Rattle.std.proofs.Common.{subst, sym}
+use Rattle.dom_ids.specs.Index.{IsIndexOf}
+use Rattle.live_tree.specs.Living.{IsRightBut}
+use Rattle.live_tree.proofs.Flushing.{listed_known, listed_closed, others_but, in_order, is_present, was_but, order_read, passes_read, all_read}
 use Rattle.live_tree.proofs.live.renewed.Goals as goal
 
-pub renew-requires-clause-closed : goal.renew-requires-clause-closed
-renew-requires-clause-closed g c = subst (λ d. IsClosedUp d c.args.reach.now) (sym c.document-now.ensures) c.requires.right.closed
+pub from_above-requires : goal.from_above-requires
+from_above-requires g c =
+    let right = subst (λ d. IsRightBut c.args.kept d c.args.passes c.args.reach.now) (sym c.document-now.ensures) c.requires.right in
+    record {
+      tree = c.keeps_tree.ensures.tree;
+      known = listed_known c.args.kept c.document-now.result.now c.args.passes c.args.reach.now right c.as_slice-nodes.result.now c.as_slice-nodes.ensures;
+      closed = listed_closed c.args.kept c.document-now.result.now c.args.passes c.args.reach.now right c.as_slice-nodes.result.now c.as_slice-nodes.ensures;
+    }
+
+pub returns-in_err-order-clause-counted : goal.returns-in_err-order-clause-counted
+returns-in_err-order-clause-counted g c = order_read c.args.reach.now c.as_slice-nodes.result.now _ _ c.as_slice-nodes.ensures c.in_err-order.ensures.counted
+
+pub renew-requires : goal.renew-requires
+renew-requires g c =
+    let right = subst (λ d. IsRightBut c.args.kept d c.args.passes c.args.reach.now) (sym c.document-now.ensures) c.requires.right in
+    let ordered = in_order c.args.kept c.document-now.result.now c.args.passes c.args.reach.now right c.as_slice-nodes.result.now c.as_slice-nodes.ensures c.in_ok-order.order c.as_slice-down.result.now c.as_slice-down.ensures c.in_ok-order.ensures.same c.in_ok-order.ensures.order c.in_ok-order.ensures.few in
+    record {
+      ids = subst (λ d. IsIndexOf d c.index.result.now) (sym c.document-now.ensures) c.index.ensures;
+      order = ordered.order;
+      others = others_but c.args.kept c.document-now.result.now c.args.passes c.args.reach.now right c.as_slice-nodes.result.now c.as_slice-nodes.ensures c.in_ok-order.order c.as_slice-down.result.now c.as_slice-down.ensures c.in_ok-order.ensures.same;
+    }
 
 pub returns-in_err-passes-clause-counted : goal.returns-in_err-passes-clause-counted
-returns-in_err-passes-clause-counted g c = passes_read c.document-now.result.now c.keeps_tree.ensures.tree c.args.reach.now _ _ c.in_err-passes.ensures.counted
+returns-in_err-passes-clause-counted g c =
+    passes_read c.args.reach.now c.as_slice-nodes.result.now c.in_ok-order.order c.as_slice-down.result.now _ _ _ c.as_slice-nodes.ensures c.as_slice-down.ensures c.in_ok-order.ensures.few c.in_ok-order.ensures.counted c.in_err-passes.ensures.counted
 
-pub renewed_tree-requires-clause-present : goal.renewed_tree-requires-clause-present
-renewed_tree-requires-clause-present g c =
-    subst (λ d. IsPresent d c.in_ok-passes.passes c.as_slice.result.now) (sym c.document-now.ensures)
-    (is_present c.args.kept c.args.dom.now c.args.passes c.args.reach.now c.requires.right c.as_slice.result.now c.as_slice.ensures (subst IsTree c.document-now.ensures c.keeps_tree.ensures.tree) c.in_ok-passes.passes
-    (subst (λ d. ArePassesOf d c.in_ok-passes.passes) c.document-now.ensures c.in_ok-passes.ensures.value))
+pub renewed_tree-requires : goal.renewed_tree-requires
+renewed_tree-requires g c =
+    let right = subst (λ d. IsRightBut c.args.kept d c.args.passes c.args.reach.now) (sym c.document-now.ensures) c.requires.right in
+    record {
+      present = is_present c.args.kept c.document-now.result.now c.args.passes c.args.reach.now right c.as_slice-nodes.result.now c.as_slice-nodes.ensures c.keeps_tree.ensures.tree c.in_ok-passes.passes c.in_ok-passes.ensures.value;
+      order = in_order c.args.kept c.document-now.result.now c.args.passes c.args.reach.now right c.as_slice-nodes.result.now c.as_slice-nodes.ensures c.in_ok-order.order c.as_slice-down.result.now c.as_slice-down.ensures c.in_ok-order.ensures.same c.in_ok-order.ensures.order c.in_ok-order.ensures.few;
+      was = was_but c.args.kept c.document-now.result.now c.args.passes c.args.reach.now right c.as_slice-nodes.result.now c.as_slice-nodes.ensures;
+    }
 
 pub returns-in_err-turned-clause-counted : goal.returns-in_err-turned-clause-counted
 returns-in_err-turned-clause-counted g c =
-    all_read c.document-now.result.now c.keeps_tree.ensures.tree c.args.reach.now c.as_slice.result.now _ _ _ c.as_slice.ensures c.in_ok-passes.ensures.counted c.in_err-turned.ensures.counted
+    all_read c.args.reach.now c.as_slice-nodes.result.now c.in_ok-order.order c.as_slice-down.result.now _ _ _ _ c.as_slice-nodes.ensures c.as_slice-down.ensures c.in_ok-order.ensures.few c.in_ok-order.ensures.counted c.in_ok-passes.ensures.counted c.in_err-turned.ensures.counted
 
 pub returns-in_err-sent-clause-counted : goal.returns-in_err-sent-clause-counted
 returns-in_err-sent-clause-counted g c =
-    all_read c.document-now.result.now c.keeps_tree.ensures.tree c.args.reach.now c.as_slice.result.now _ _ _ c.as_slice.ensures c.in_ok-passes.ensures.counted c.in_ok-turned.ensures.counted
+    all_read c.args.reach.now c.as_slice-nodes.result.now c.in_ok-order.order c.as_slice-down.result.now _ _ _ _ c.as_slice-nodes.ensures c.as_slice-down.ensures c.in_ok-order.ensures.few c.in_ok-order.ensures.counted c.in_ok-passes.ensures.counted c.in_ok-turned.ensures.counted
 
 pub returns-in_err-settled-clause-counted : goal.returns-in_err-settled-clause-counted
 returns-in_err-settled-clause-counted g c =
-    all_read c.document-now.result.now c.keeps_tree.ensures.tree c.args.reach.now c.as_slice.result.now _ _ _ c.as_slice.ensures c.in_ok-passes.ensures.counted c.in_ok-turned.ensures.counted
+    all_read c.args.reach.now c.as_slice-nodes.result.now c.in_ok-order.order c.as_slice-down.result.now _ _ _ _ c.as_slice-nodes.ensures c.as_slice-down.ensures c.in_ok-order.ensures.few c.in_ok-order.ensures.counted c.in_ok-passes.ensures.counted c.in_ok-turned.ensures.counted
 
 pub returns-clause-counted : goal.returns-clause-counted
 returns-clause-counted g c =
-    all_read c.document-now.result.now c.keeps_tree.ensures.tree c.args.reach.now c.as_slice.result.now _ _ _ c.as_slice.ensures c.in_ok-passes.ensures.counted c.in_ok-turned.ensures.counted
+    all_read c.args.reach.now c.as_slice-nodes.result.now c.in_ok-order.order c.as_slice-down.result.now _ _ _ _ c.as_slice-nodes.ensures c.as_slice-down.ensures c.in_ok-order.ensures.few c.in_ok-order.ensures.counted c.in_ok-passes.ensures.counted c.in_ok-turned.ensures.counted

@@ -1,4 +1,4 @@
-use Rattle.std.proofs.Common.{ap, subst}
+use Rattle.std.proofs.Common.{subst}
 use Rattle.ax_base.specs.Trees.{IsTree}
 use Rattle.live_tree.proofs.Flushing.{right_but, flush_read}
 use Rattle.live_tree.proofs.live.LiveTree.flush.Goals as goal

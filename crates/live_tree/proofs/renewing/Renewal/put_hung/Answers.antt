@@ -1,21 +1,20 @@
-use Rattle.std.proofs.Common.{◌≡◌, ◌++◌, Some, sym, ap, ◌∙◌, append-nil, arith}
+use Rattle.std.proofs.Common.{◌++◌, sym, ap, ◌∙◌, append-nil, arith}
 use Rattle.std.specs.List.{filter}
 use Rattle.ax_base.proofs.Objects.{objects_known}
 use Rattle.ax_fresh.specs.Gathering.{with_records}
 use Rattle.ax_record.proofs.TreeOf.{object_is}
-use Rattle.tree_diff.specs.Candidates.{is_renewed_kid}
-use Rattle.ctx_pass.specs.Passes.{count}
-use Rattle.live_tree.proofs.Remaking.{kids_here, no_kids, some_hung}
+use Rattle.tree_diff.specs.Candidates.{is_moved}
+use Rattle.live_tree.proofs.Remaking.{kids_here, no_kids, some_hung, some_stay}
 use Rattle.live_tree.proofs.renewing.Renewal.put_hung.Goals as goal
 
 pub returns-then-not-is_object : goal.returns-then-not-is_object
 returns-then-not-is_object g c =
     let d = c.args.self.now.dom.now in
-    let test = is_renewed_kid c.args.self.now.kept.now c.args.self.now.nodes.now c.args.id in
+    let test = is_moved c.args.self.now.kept.now c.args.self.now.nodes.now c.args.id in
     let none = sym (ap (filter test) (no_kids d c.requires.present.tree c.args.id (sym c.if-not-is_object.ensures.value))) in
     record {
       records = ap (with_records d c.args.fresh.now.records) none;
-      hung = sym (append-nil c.args.fresh.now.hung) ∙ ap (λ l. c.args.fresh.now.hung ++ l) none;
+      moved = sym (append-nil c.args.fresh.now.moved) ∙ ap (λ l. c.args.fresh.now.moved ++ l) none;
       counted = (let read = c.if-not-is_object.ensures.counted in omega arith);
     }
 
@@ -25,30 +24,20 @@ put_each-requires g c =
     let object = object_is d c.requires.present.tree c.args.id (sym c.if-not-is_object.ensures.value) in
     let all = c.kids-kids.ensures d c.requires.present.passes.kids (objects_known d c.requires.present.tree c.args.id object) in
     record {
-      present = c.requires.present;
+      tree = c.requires.present.tree;
       was = c.requires.was;
       hung = some_hung d c.requires.present.tree _ c.args.id _ _ object all (c.as_slice.ensures ∙ c.in_ok-hung.ensures);
+      as_they_were = some_stay c.args.self.now.kept.now c.args.self.now.nodes.now c.args.id _ _ (c.as_slice.ensures ∙ c.in_ok-hung.ensures);
     }
 
 pub returns : goal.returns
 returns g c =
     let d = c.args.self.now.dom.now in
-    let test = is_renewed_kid c.args.self.now.kept.now c.args.self.now.nodes.now c.args.id in
+    let test = is_moved c.args.self.now.kept.now c.args.self.now.nodes.now c.args.id in
     let one = sym c.if-not-is_object.ensures.value in
     let all = c.as_slice.ensures ∙ c.in_ok-hung.ensures ∙ ap (filter test) (c.kids-kids.ensures d c.requires.present.passes.kids (objects_known d c.requires.present.tree c.args.id (object_is d c.requires.present.tree c.args.id one)) ∙ sym (kids_here d c.requires.present.tree c.args.id one)) in
     record {
       records = c.in_ok-put_each.ensures.records ∙ ap (with_records d c.args.fresh.now.records) all;
-      hung = c.in_ok-put_each.ensures.hung ∙ ap (λ l. c.args.fresh.now.hung ++ l) all;
-      counted = (let first = c.if-not-is_object.ensures.counted in let rest = c.in_ok-put_each.ensures.counted in let same = ap (count (Some c.args.self.now.nodes.now)) all in omega arith);
+      moved = c.in_ok-put_each.ensures.moved ∙ ap (λ l. c.args.fresh.now.moved ++ l) all;
+      counted = (let first = c.if-not-is_object.ensures.counted in omega arith);
     }
-
-pub returns-in_err-put_each-clause-counted : goal.returns-in_err-put_each-clause-counted
-returns-in_err-put_each-clause-counted g c =
-    let d = c.args.self.now.dom.now in
-    let test = is_renewed_kid c.args.self.now.kept.now c.args.self.now.nodes.now c.args.id in
-    let one = sym c.if-not-is_object.ensures.value in
-    let all = c.as_slice.ensures ∙ c.in_ok-hung.ensures ∙ ap (filter test) (c.kids-kids.ensures d c.requires.present.passes.kids (objects_known d c.requires.present.tree c.args.id (object_is d c.requires.present.tree c.args.id one)) ∙ sym (kids_here d c.requires.present.tree c.args.id one)) in
-    let first = c.if-not-is_object.ensures.counted in
-    let rest = c.in_err-put_each.ensures.counted in
-    let same = ap (count (Some c.args.self.now.nodes.now)) all in
-    omega arith

@@ -1,10 +1,9 @@
-//! The kids of an object that are among some nodes, or hung elsewhere before.
+//! The kids of an object that hung elsewhere before.
 ghost use Rattle.std.specs.Prelude.{◌≡◌, ◌++◌, ◌∷◌, [], filter, if◌then◌else◌, IfOk, OnOk};
 ghost use Rattle.std.specs.List.Sorted.{IsStrictlyIncreasing};
-ghost use Rattle.ax_dom.specs.Among.{is_in};
 ghost use Rattle.ax_record.specs.ObjectTrees.{IsObjectTree};
 ghost use Rattle.ax_record.specs.Tree.{kids_of};
-ghost use Rattle.tree_diff.specs.Candidates.{hung_on, is_renewed_kid};
+ghost use Rattle.tree_diff.specs.Candidates.{hung_on, is_moved};
 
 use crate::splices::differing;
 use ax_base::{Ids, NoMemory, ObjId};
@@ -12,10 +11,10 @@ use ax_dom::is_among;
 use ax_record::TreeView;
 use std::alloc::Global;
 
-/// Of the objects that hang on one now, in their order, those that are among some nodes or hung elsewhere before. It looks
-/// each up among the nodes, which rise, and only those up in the tree before that stand between the first and the last
-/// difference from the kids that the object had.
-pub fn renewed_kids<T: TreeView>(
+/// Of the objects that hang on one now, in their order, those that hung elsewhere before and are not among some nodes, which
+/// rise. It looks only those up that stand between the first and the last difference from the kids that the object had: all
+/// others hung on it.
+pub fn moved_kids<T: TreeView>(
     alloc: Global,
     before: &T,
     nodes: &[ObjId],
@@ -23,13 +22,11 @@ pub fn renewed_kids<T: TreeView>(
     hung: &[ObjId],
 ) -> Result<Ids, NoMemory>
     requires rising { IsStrictlyIncreasing nodes.now }
-    ensures { IfOk result (λ kids. kids ≡ filter (is_renewed_kid (T.tree before.now) nodes.now above) hung.now) }
+    ensures { IfOk result (λ kids. kids ≡ filter (is_moved (T.tree before.now) nodes.now above) hung.now) }
 {
     let (start, end) = differing(hung, kids_before(before, above));
     let mut kids = Ids::new(alloc);
-    push_among(nodes, &hung[..start], &mut kids)?;
-    push_renewed(before, nodes, above, &hung[start..end], &mut kids)?;
-    push_among(nodes, &hung[end..], &mut kids)?;
+    push_moved(before, nodes, above, &hung[start..end], &mut kids)?;
     Ok(kids)
 }
 
@@ -44,19 +41,8 @@ pub(crate) fn kids_before<T: TreeView>(before: &T, id: ObjId) -> &[ObjId]
     }
 }
 
-/// Adds those of some ids that are among some nodes.
-fn push_among(nodes: &[ObjId], ids: &[ObjId], out: &mut Ids) -> Result<(), NoMemory>
-    requires rising { IsStrictlyIncreasing nodes.now }
-    ensures { OnOk result (out.new ≡ out.old ++ filter (is_in nodes.now) ids.now) }
-{
-    for id in ids {
-        push_if(is_among(nodes, *id), *id, out)?;
-    }
-    Ok(())
-}
-
-/// Adds those of some ids that are among some nodes, or hung elsewhere before.
-fn push_renewed<T: TreeView>(
+/// Adds those of some ids that hung elsewhere before and are not among some nodes.
+fn push_moved<T: TreeView>(
     before: &T,
     nodes: &[ObjId],
     above: ObjId,
@@ -64,10 +50,10 @@ fn push_renewed<T: TreeView>(
     out: &mut Ids,
 ) -> Result<(), NoMemory>
     requires rising { IsStrictlyIncreasing nodes.now }
-    ensures { OnOk result (out.new ≡ out.old ++ filter (is_renewed_kid (T.tree before.now) nodes.now above) ids.now) }
+    ensures { OnOk result (out.new ≡ out.old ++ filter (is_moved (T.tree before.now) nodes.now above) ids.now) }
 {
     for id in ids {
-        push_if(is_renewed_kid(before, nodes, above, *id), *id, out)?;
+        push_if(is_moved(before, nodes, above, *id), *id, out)?;
     }
     Ok(())
 }
@@ -82,12 +68,12 @@ fn push_if(wanted: bool, id: ObjId, out: &mut Ids) -> Result<(), NoMemory>
     Ok(())
 }
 
-/// Whether an id is among some nodes, or hung elsewhere before.
-fn is_renewed_kid<T: TreeView>(before: &T, nodes: &[ObjId], above: ObjId, id: ObjId) -> bool
+/// Whether an object hung elsewhere before and is not among some nodes.
+fn is_moved<T: TreeView>(before: &T, nodes: &[ObjId], above: ObjId, id: ObjId) -> bool
     requires rising { IsStrictlyIncreasing nodes.now }
-    ensures { result ≡ is_renewed_kid (T.tree before.now) nodes.now above id }
+    ensures { result ≡ is_moved (T.tree before.now) nodes.now above id }
 {
-    is_among(nodes, id) || !hung_on(before, above, id)
+    !hung_on(before, above, id) && !is_among(nodes, id)
 }
 
 /// Whether an object hung on another.

@@ -1,6 +1,0 @@
-use Rattle.std.proofs.Common.{◌≡◌, ◌++◌, take, filter}
-use Rattle.tree_diff.specs.Candidates.{is_renewed_kid}
-use Rattle.tree_diff.proofs.renewed.push_renewed.Given as goal
-
-abbrev pub invariant-loop-id : goal.invariant-loop-id
-invariant-loop-id g l = l.out ≡ l.fn.out ++ filter (is_renewed_kid (g.T.TreeView.tree l.before) l.nodes l.above) (take l.id-index l.ids)
