@@ -8,3 +8,5 @@ mod contexts_and_kids;
 mod edits;
 #[cfg(test)]
 mod marked;
+#[cfg(test)]
+mod saids;
