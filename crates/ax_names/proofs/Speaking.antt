@@ -1,23 +1,18 @@
 -- What a node says, by the cell that was read.
-use Rattle.std.proofs.Common.{◌≡◌, ℕ, ◌+◌, ◌-◌, ◌*◌, ◌<◌, Bool, true, false, cond, ◌==◌, Some, None, List, [], length, get_or, Contains, codes, refl, sym, ap, subst, ◌∙◌, arith}
-use Rattle.std.specs.List.{flat_map}
+use Rattle.std.proofs.Common.{◌≡◌, ℕ, ◌+◌, ◌-◌, ◌*◌, ◌<◌, Bool, true, false, cond, Some, None, List, [], length, get_or, Contains, codes, refl, sym, ap, subst, ◌∙◌, arith}
 use Rattle.ax_base.specs.declared.attrs.Attr.{Attr}
-use Rattle.ax_base.specs.declared.body.Body.{Body}
-use Rattle.ax_base.specs.declared.body.Body.TheVariants.{Element, Words}
+use Rattle.ax_base.specs.declared.body.Body.TheVariants.{Element}
 use Rattle.ax_base.specs.declared.rect.Rect.{Rect}
-use Rattle.ax_base.specs.declared.rect.Run.{Run}
 use Rattle.ax_base.specs.declared.role.Role.{Role}
 use Rattle.ax_base.specs.Characters.{Chars, is_blank}
 use Rattle.ax_base.specs.Values.{text_in}
-use Rattle.ax_base.specs.Document.{Document, has, root, depth, body, spot, children, IsChild}
+use Rattle.ax_base.specs.Document.{Document, has, depth, children, IsChild}
 use Rattle.ax_base.specs.Trees.{IsTree}
-use Rattle.ax_base.specs.Roles.{role, role_of}
-use Rattle.ax_base.specs.Said.{child_text, said_by, embedded}
-use Rattle.ax_base.proofs.SaidLaws.{said0-children, said_all-children}
+use Rattle.ax_base.specs.Said.{said_by, embedded}
 use Rattle.ax_base.proofs.Places.{depth-level, has_children}
 use Rattle.ax_dom.specs.declared.cell.Cell.{Cell}
 use Rattle.ax_dom.specs.Slots.{cell_of, cell_at}
-use Rattle.ax_names.specs.OwnTexts.{said_or, title_said, element_says, hiding, said_part}
+use Rattle.ax_names.specs.OwnTexts.{said_or, title_said, element_says}
 
 pub child_of : (d : Document) (n k x : ℕ) (xs : List ℕ) → xs ≡ children d n → k < length xs → x ≡ get_or xs k x → IsChild d n x
 child_of d n k x xs same low is = subst (λ ys. Contains ys x) same (k, low, sym is)
@@ -50,38 +45,3 @@ by_turns a e below title true true p q = rw p (rw q refl)
 
 pub element_is : (r : Role) (tag : Chars) (attrs : List Attr) (frame : Rect) (below : Chars) → said_by r [] (Element tag attrs frame) below ≡ element_says r tag attrs below
 element_is r tag attrs frame below = by_turns (text_in (codes "aria-label") attrs) (embedded r tag attrs) below (title_said attrs) _ _ refl refl
-
--- what a node says, or all that it says, is made of what its children say
-pub said_part-children : (whole : Bool) (d : Document) → IsTree d → (n : ℕ)
-    → said_part whole d n ≡ cond (hiding whole (spot d n)) [] (said_by (role (spot d n)) [] (body d n) (flat_map (child_text d (hiding whole) (said_part whole d)) (children d n)))
-said_part-children true d t n = said_all-children d t n
-said_part-children false d t n = said0-children d t n
-
-module _ (whole : Bool) (d : Document) (t : IsTree d) (n : ℕ) (b : Body) (is : b ≡ body d n) (h : Bool) (test : h ≡ hiding whole (record { id = n; body = b })) where
-  abbrev below : Chars
-  below = flat_map (child_text d (hiding whole) (said_part whole d)) (children d n)
-
-  at_spot : h ≡ hiding whole (spot d n)
-  at_spot = test ∙ ap (λ v. hiding whole (record { id = n; body = v })) is
-
-  -- what hides says nothing
-  pub says_nothing : h ≡ true → [] ≡ said_part whole d n
-  says_nothing yes_it = sym (said_part-children whole d t n ∙ ap (λ v. cond v [] (said_by (role (spot d n)) [] (body d n) below)) (sym at_spot ∙ yes_it))
-
-  shown : h ≡ false → said_by (role (spot d n)) [] b below ≡ said_part whole d n
-  shown not_it =
-      ap (λ v. said_by (role (spot d n)) [] v below) is
-      ∙ sym (said_part-children whole d t n ∙ ap (λ v. cond v [] (said_by (role (spot d n)) [] (body d n) below)) (sym at_spot ∙ not_it))
-
-  -- a text says its characters
-  pub says_words : h ≡ false → (chars : Chars) (runs : List Run) → b ≡ Words chars runs → (said : Chars) → said ≡ chars → said ≡ said_part whole d n
-  says_words not_it chars runs words said same = same ∙ ap (λ v. said_by (role (spot d n)) [] v below) (sym words) ∙ shown not_it
-
-  -- an element says what its own texts and its children say
-  pub says_element : h ≡ false → (r : Role) → r ≡ role_of (n == root) b → (tag : Chars) (attrs : List Attr) (frame : Rect) → b ≡ Element tag attrs frame
-      → (named : Chars) → named ≡ tag → element_says r named attrs below ≡ said_part whole d n
-  says_element not_it r known tag attrs frame element named same =
-      ap (λ v. element_says r v attrs below) same
-      ∙ ap (λ v. element_says v tag attrs below) (known ∙ ap (λ v. role_of (n == root) v) is)
-      ∙ sym (element_is (role (spot d n)) tag attrs frame below)
-      ∙ ap (λ v. said_by (role (spot d n)) [] v below) (sym element) ∙ shown not_it

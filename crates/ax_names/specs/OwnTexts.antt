@@ -1,14 +1,12 @@
 -- What an element says by itself, before and after its children.
-use Rattle.std.specs.Prelude.{ℕ, Bool, not, ◌&&◌, ◌||◌, if◌then◌else◌, Option, Some, None, List, [], ◌∷◌, codes}
+use Rattle.std.specs.Prelude.{Bool, not, ◌&&◌, ◌||◌, if◌then◌else◌, Option, Some, None, List, [], ◌∷◌, codes}
 use Rattle.ax_base.specs.declared.attrs.Attr.{Attr}
 use Rattle.ax_base.specs.declared.body.Body.{Body}
 use Rattle.ax_base.specs.declared.role.Role.{Role}
 use Rattle.ax_base.specs.Characters.{Chars, is_blank, flat, cut, first_said}
 use Rattle.ax_base.specs.Values.{text_in}
-use Rattle.ax_base.specs.Document.{Document, Spot}
-use Rattle.ax_base.specs.Roles.{hides}
 use Rattle.ax_base.specs.NamedRoles.{names_from_content, name_prohibited}
-use Rattle.ax_base.specs.Said.{embedded, is_block, spaced, said_by, said0, said_all}
+use Rattle.ax_base.specs.Said.{embedded, is_block, spaced, said_by}
 use Rattle.ax_names.specs.declared.naming.Named.{Named}
 
 -- the first of two texts where it is not blank, and else the second
@@ -30,14 +28,6 @@ title_said attrs = first_said (text_in (codes "title") attrs ∷ [])
 -- what an element of a role says that follows no reference
 abbrev pub element_says : Role → Chars → List Attr → Chars → Chars
 element_says r tag attrs below = said_or (own_text r tag attrs) (said_or below (title_said attrs))
-
--- whether a node hides: where all is said nothing does
-abbrev pub hiding : Bool → Spot → Bool
-hiding whole n = not whole && hides n
-
--- what a node says that follows no reference, or all that it says
-abbrev pub said_part : Bool → Document → ℕ → Chars
-said_part whole d n = if whole then said_all d n else said0 d n
 
 -- what an element of a role says whose own references say `referred`, from what its children say
 abbrev pub element_shows : Chars → Role → Chars → List Attr → Chars → Chars

@@ -16,7 +16,7 @@ use crate::pieces::Piece;
 use crate::pieces_tell;
 use crate::refs::{push_node, referred_by};
 use crate::session::Names;
-use crate::shown::content;
+use crate::with_references::content;
 use ax_base::{Attrs, Body, NoMemory, ObjId, Role, Steps, Text, is_blank, is_field};
 use ax_dom::{Cell, Dom};
 use ax_roles::{name_prohibited, names_from_content};

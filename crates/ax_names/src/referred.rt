@@ -1,11 +1,12 @@
-//! What references say.
+//! What a node says that is referred to.
 ghost use Rattle.std.specs.Prelude.{◌≡◌, IfOk, IsTrue};
 ghost use Rattle.ax_base.specs.Document.{has};
 ghost use Rattle.ax_base.specs.References.{referred_node};
 
 use crate::gather::Gather;
 use crate::hidden::is_hidden;
-use crate::plain::said_part;
+use crate::name_from_content::said;
+use crate::scope::{Shown, Whole};
 use ax_base::{NoMemory, ObjId, Steps};
 use ax_dom::Dom;
 use std::alloc::Global;
@@ -21,7 +22,10 @@ pub fn referred_node<G: Gather, L: Ledger>(
     requires known { IsTrue (has dom.now id) }
     ensures { IfOk result (λ p. p ≡ G.of (referred_node dom.now id)) }
 {
-    let whole = is_hidden(dom, id, steps);
-    let said: G = said_part(alloc, dom, id, whole, steps)?;
-    said.into_flat(alloc)
+    if is_hidden(dom, id, steps) {
+        let all: G = said(alloc, dom, &mut Whole {}, id, steps)?;
+        return all.into_flat(alloc);
+    }
+    let shown: G = said(alloc, dom, &mut Shown {}, id, steps)?;
+    shown.into_flat(alloc)
 }

@@ -4,9 +4,9 @@ ghost use Rattle.ax_base.specs.Document.{has};
 ghost use Rattle.ax_base.specs.Said.{said0, said_all};
 ghost use Rattle.ax_base.specs.References.{said1};
 
-use crate::plain::said_part;
+use crate::name_from_content::said;
+use crate::scope::{Shown, Whole};
 use crate::session::Sayings;
-use crate::shown::shown_cell;
 use ax_base::{NoMemory, ObjId, Steps, Text};
 use ax_dom::Dom;
 use std::alloc::Global;
@@ -22,7 +22,7 @@ pub fn said_plain<L: Ledger>(
     requires known { IsTrue (has dom.now id) }
     ensures { IfOk result (λ t. t ≡ said0 dom.now id) }
 {
-    said_part(alloc, dom, id, false, steps)
+    said(alloc, dom, &mut Shown {}, id, steps)
 }
 
 /// All that a node says, also what hides, where no reference is followed.
@@ -35,7 +35,7 @@ pub fn said_whole<L: Ledger>(
     requires known { IsTrue (has dom.now id) }
     ensures { IfOk result (λ t. t ≡ said_all dom.now id) }
 {
-    said_part(alloc, dom, id, true, steps)
+    said(alloc, dom, &mut Whole {}, id, steps)
 }
 
 /// What a node says as a part of a name: its own references count, and those of what is below it.
@@ -48,9 +48,6 @@ pub fn said_shown<L: Ledger>(
     requires known { IsTrue (has dom.now id) }
     ensures { IfOk result (λ t. t ≡ said1 dom.now id) }
 {
-    let Some(cell) = dom.cell(id, steps) else {
-        return Ok(Text::new(alloc));
-    };
     let mut sayings: Sayings<Text> = Sayings::new(alloc);
-    shown_cell(alloc, dom, &mut sayings, cell, steps)
+    said(alloc, dom, &mut sayings, id, steps)
 }

@@ -1,7 +1,7 @@
 use Rattle.std.proofs.Common.{◌∙◌}
 use Rattle.std.proofs.lemmas.Result.{IfOk-weaker}
 use Rattle.ax_base.specs.AccessibleNames.{content_text}
-use Rattle.ax_names.proofs.shown.content.Goals as goal
+use Rattle.ax_names.proofs.with_references.content.Goals as goal
 
 pub returns-in-Some-clause-value : goal.returns-in-Some-clause-value
 returns-in-Some-clause-value g c =
@@ -10,7 +10,7 @@ returns-in-Some-clause-value g c =
 
 pub returns-clause-sayings : goal.returns-clause-sayings
 returns-clause-sayings g c =
-    let names = c.in_ok-said.ensures.sayings in
+    let names = c.in_ok-said.ensures.kept in
     record {
       targets = names.targets;
       referred = names.referred;
