@@ -5,9 +5,9 @@ ghost use Rattle.ax_base.specs.Characters.{Chars, is_blank, flat, cut};
 ghost use Rattle.ax_names.specs.OwnTexts.{element_called, named_from, described_from};
 ghost use Rattle.ax_names.specs.Pieces.{piece_of};
 
-use crate::embedded::title_said;
 use crate::pieces::Piece;
 use crate::pieces_tell;
+use crate::tooltip::title_said;
 use ax_base::{Attrs, NoMemory, Role, Text, is_blank};
 use ax_roles::{name_prohibited, names_from_content};
 use std::alloc::Global;

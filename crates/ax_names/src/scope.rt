@@ -65,6 +65,7 @@ impl<G: Gather> Scope<G> for Shown {
 
     ghost says = { said0 };
 
+    // nothing is kept
     ghost keeps = { λ d s. true ≡ true };
 
     ghost tells = { said0-children };
@@ -99,6 +100,7 @@ impl<G: Gather> Scope<G> for Whole {
 
     ghost says = { said_all };
 
+    // nothing is kept
     ghost keeps = { λ d s. true ≡ true };
 
     ghost tells = { said_all-children };

@@ -5,10 +5,11 @@ ghost use Rattle.ax_base.specs.Said.{said_by};
 ghost use Rattle.ax_names.specs.OwnTexts.{said_or, own_text, title_said, unless_blank, element_shows, said_as_child};
 ghost use Rattle.ax_names.specs.Pieces.{piece_of};
 
+use crate::aria_label::own_text;
 use crate::blocks::{is_block, with_spaces};
-use crate::embedded::{own_text, title_said};
 use crate::gather::Gather;
 use crate::pieces::Piece;
+use crate::tooltip::title_said;
 use ax_base::{Attrs, Body, NoMemory, Role, is_blank};
 use std::alloc::Global;
 

@@ -6,9 +6,9 @@ ghost use Rattle.ax_base.specs.AccessibleNames.{content_text};
 ghost use Rattle.ax_base.proofs.SaidLaws.{said1-children};
 ghost use Rattle.ax_names.specs.Sessions.{AreSayingsOf, referred_by};
 
+use crate::aria_labelledby::referred_by;
 use crate::gather::Gather;
 use crate::name_from_content::said_by_children;
-use crate::refs::referred_by;
 use crate::scope::Scope;
 use crate::session::Sayings;
 use ax_base::{Attrs, Body, NoMemory, ObjId, Steps};

@@ -5,7 +5,7 @@ use Rattle.ax_base.specs.Values.{text_in}
 use Rattle.ax_names.specs.Pieces.{piece_of}
 use Rattle.ax_names.specs.Sessions.{referred_by}
 use Rattle.ax_names.proofs.NamedBy.{settled_named}
-use Rattle.ax_names.proofs.called.element_named.Goals as goal
+use Rattle.ax_names.proofs.name_and_description.element_named.Goals as goal
 
 pub returns-then-is_settled-clause-value : goal.returns-then-is_settled-clause-value
 returns-then-is_settled-clause-value g c =

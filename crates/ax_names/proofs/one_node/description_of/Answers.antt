@@ -1,4 +1,4 @@
-use Rattle.ax_names.proofs.calls.description_of.Goals as goal
+use Rattle.ax_names.proofs.one_node.description_of.Goals as goal
 
 pub description_of-requires-clause-names : goal.description_of-requires-clause-names
 description_of-requires-clause-names g c = c.new-names.ensures c.args.dom.now

@@ -1,7 +1,7 @@
 use Rattle.std.proofs.Common.{rules}
 use Rattle.ax_base.specs.References.{referred_text}
 use Rattle.ax_names.proofs.Gathered.{nothing_yet, all_gathered, eight_gathered, one_gathered}
-use Rattle.ax_names.proofs.refs.all_referred.Goals as goal
+use Rattle.ax_names.proofs.aria_labelledby.all_referred.Goals as goal
 
 pub loop-init : goal.loop-init
 loop-init g c = (c.requires.sayings, nothing_yet g.G.Gather.of (referred_text c.args.dom.now) c.args.text.now c.empty-joined.result c.empty-joined.ensures, c.utf8.text)

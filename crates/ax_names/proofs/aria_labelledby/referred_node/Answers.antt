@@ -2,7 +2,7 @@ use Rattle.std.proofs.Common.{◌∙◌, ap, sym, cond}
 use Rattle.std.proofs.lemmas.Result.{IfOk-weaker}
 use Rattle.ax_base.specs.Characters.{flat}
 use Rattle.ax_base.specs.Said.{said0, said_all}
-use Rattle.ax_names.proofs.referred.referred_node.Goals as goal
+use Rattle.ax_names.proofs.aria_labelledby.referred_node.Goals as goal
 
 pub returns-then-is_hidden : goal.returns-then-is_hidden
 returns-then-is_hidden g c =

@@ -3,7 +3,7 @@ use Rattle.std.proofs.lemmas.Result.{IfOk-weaker}
 use Rattle.ax_names.specs.Pieces.{all_apart}
 use Rattle.ax_names.specs.Sessions.{all_referred}
 use Rattle.ax_names.proofs.Referring.{flat_referred}
-use Rattle.ax_names.proofs.refs.referred_by.Goals as goal
+use Rattle.ax_names.proofs.aria_labelledby.referred_by.Goals as goal
 
 pub returns-clause-value : goal.returns-clause-value
 returns-clause-value g c =

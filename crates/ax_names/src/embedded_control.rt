@@ -1,31 +1,15 @@
-//! The texts of an element itself.
+//! The texts that are embedded in elements (AccName 1.2, section 4.3.2, step 2C, 'Embedded Control', and for `img` and push buttons 2E).
 ghost use Rattle.std.specs.Prelude.{◌≡◌, if◌then◌else◌, [], codes};
 ghost use Rattle.ax_base.specs.Values.{text_in};
-ghost use Rattle.ax_base.specs.Said.{is_button_field, holds_text, holds_range, range_text, embedded};
-ghost use Rattle.ax_names.specs.OwnTexts.{said_or, own_text, title_said};
+ghost use Rattle.ax_base.specs.Said.{holds_text, holds_range, range_text, embedded};
 
-use ax_base::{Attrs, Role, is_blank};
-
-/// What an element of a role says by itself, before its children: its `aria-label`, else the text embedded in it, the first that
-/// is not blank.
-pub fn own_text<'a>(role: Role, tag: &str, attrs: &'a Attrs) -> &'a str
-    ensures { result.now ≡ own_text role tag.now attrs.now }
-{
-    let label = attrs.text("aria-label");
-    let inside = embedded(role, tag, attrs);
-    said_or(label, said_or(inside, ""))
-}
-
-/// What an element says after its children: its `title`, where it is not blank.
-pub fn title_said(attrs: &Attrs) -> &str
-    ensures { result.now ≡ title_said attrs.now }
-{
-    said_or(attrs.text("title"), "")
-}
+use crate::first_said::said_or;
+use crate::host_language_label::is_button_field;
+use ax_base::{Attrs, Role};
 
 /// The text embedded in an element of a role, or nothing.
 #[tactic(auto, unfolding(ax_base::specs::Said::embedded))]
-fn embedded<'a>(role: Role, tag: &str, attrs: &'a Attrs) -> &'a str
+pub fn embedded<'a>(role: Role, tag: &str, attrs: &'a Attrs) -> &'a str
     ensures { result.now ≡ embedded role tag.now attrs.now }
 {
     let alt = text_where(tag == "img", attrs, "alt");
@@ -33,13 +17,6 @@ fn embedded<'a>(role: Role, tag: &str, attrs: &'a Attrs) -> &'a str
     let held = text_where(holds_text(role), attrs, "value");
     let range = range_where(holds_range(role), attrs);
     said_or(alt, said_or(pushed, said_or(held, said_or(range, ""))))
-}
-
-/// The first of two texts where it is not blank, and else the second.
-fn said_or<'a>(first: &'a str, second: &'a str) -> &'a str
-    ensures { result.now ≡ said_or first.now second.now }
-{
-    if is_blank(first) { second } else { first }
 }
 
 /// The value of an attribute, where a test holds.
@@ -64,16 +41,6 @@ fn range_text(attrs: &Attrs) -> &str
     let now = attrs.text("aria-valuenow");
     let value = attrs.text("value");
     said_or(text, said_or(now, said_or(value, "")))
-}
-
-/// Whether an element is an `input` whose word of `type` is button, submit or reset.
-pub fn is_button_field(tag: &str, attrs: &Attrs) -> bool
-    ensures { result ≡ is_button_field tag.now attrs.now }
-{
-    tag == "input"
-        && (attrs.has_word("type", "button")
-            || attrs.has_word("type", "submit")
-            || attrs.has_word("type", "reset"))
 }
 
 /// Whether the text of an element of a role is its `value`.

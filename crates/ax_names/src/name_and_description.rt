@@ -1,23 +1,23 @@
-//! Accessible names and descriptions.
+//! Accessible names and descriptions (AccName 1.2, sections 4.1 and 4.2).
 ghost use Rattle.std.specs.Prelude.{◌≡◌, ◌==◌, IfOk, OnOk, codes};
 ghost use Rattle.ax_base.specs.Characters.{Chars};
 ghost use Rattle.ax_base.specs.Document.{root};
 ghost use Rattle.ax_base.specs.Roles.{role_of};
 ghost use Rattle.ax_base.specs.Values.{text_in};
-ghost use Rattle.ax_base.specs.AccessibleNames.{labelled_text, host_label_of, name_of, description_of};
+ghost use Rattle.ax_base.specs.AccessibleNames.{name_of, description_of};
 ghost use Rattle.ax_dom.specs.Slots.{cell_of};
 ghost use Rattle.ax_names.specs.Pieces.{piece_of};
 ghost use Rattle.ax_names.specs.OwnTexts.{is_settled, described_from};
 ghost use Rattle.ax_names.specs.Sessions.{AreNamesOf, referred_by, named_by};
 
-use crate::embedded::is_button_field;
+use crate::aria_labelledby::referred_by;
+use crate::host_language_label::host_label;
 use crate::naming::{Named, element_description, element_name, flat_and_cut};
 use crate::pieces::Piece;
 use crate::pieces_tell;
-use crate::refs::{push_node, referred_by};
 use crate::session::Names;
 use crate::with_references::content;
-use ax_base::{Attrs, Body, NoMemory, ObjId, Role, Steps, Text, is_blank, is_field};
+use ax_base::{Attrs, Body, NoMemory, ObjId, Role, Steps, Text, is_blank};
 use ax_dom::{Cell, Dom};
 use ax_roles::{name_prohibited, names_from_content};
 use std::alloc::Global;
@@ -186,62 +186,4 @@ fn element_described<L: Ledger>(
         steps,
     )?;
     element_description(alloc, attrs, referred, by_title)
-}
-
-/// What is kept of the label that the host language gives to an element.
-fn host_label<L: Ledger>(
-    alloc: Global,
-    dom: &Dom,
-    names: &mut Names,
-    id: ObjId,
-    tag: &str,
-    attrs: &Attrs,
-    steps: &mut Steps<L>,
-) -> Result<Piece, NoMemory>
-    requires names { AreNamesOf dom.now names.old }
-    ensures value { IfOk result (λ p. p ≡ piece_of (host_label_of dom.now id tag.now attrs.now)) }
-    ensures names { OnOk result (AreNamesOf dom.now names.new) }
-{
-    if tag == "img" {
-        return Piece::of(alloc, attrs.text("alt"));
-    }
-    if is_button_field(tag, attrs) {
-        return Piece::of(alloc, attrs.text("value"));
-    }
-    if !is_field(tag) {
-        return Ok(Piece::empty(alloc));
-    }
-    labelled(alloc, dom, names, attrs.text("id"), id, steps)
-}
-
-/// What is kept of what the first `label` for an id says, where that id names the node.
-fn labelled<L: Ledger>(
-    alloc: Global,
-    dom: &Dom,
-    names: &mut Names,
-    text: &str,
-    id: ObjId,
-    steps: &mut Steps<L>,
-) -> Result<Piece, NoMemory>
-    requires names { AreNamesOf dom.now names.old }
-    ensures value { IfOk result (λ p. p ≡ piece_of (labelled_text dom.now text.now id)) }
-    ensures names { OnOk result (AreNamesOf dom.now names.new) }
-{
-    let mut said = Piece::empty(alloc);
-    if text.is_empty() {
-        return Ok(said);
-    }
-    let found = names.sayings.first(alloc, dom, text, steps)?;
-    let Some(first) = found else {
-        return Ok(said);
-    };
-    if first != id {
-        return Ok(said);
-    }
-    let labels = names.sayings.label(alloc, dom, text, steps)?;
-    let Some(label) = labels else {
-        return Ok(said);
-    };
-    push_node(alloc, dom, &mut names.sayings, label, &mut said, steps)?;
-    Ok(said)
 }

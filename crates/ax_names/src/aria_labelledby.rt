@@ -1,4 +1,4 @@
-//! What references say.
+//! What references say (AccName 1.2, section 4.3.2, step 2B, 'LabelledBy').
 ghost use Rattle.std.specs.Prelude.{◌≡◌, ◌∷◌, ◌++◌, IfOk, OnOk, IsTrue};
 ghost use Rattle.ax_base.specs.Characters.{Chars};
 ghost use Rattle.ax_base.specs.Document.{has};
@@ -7,7 +7,9 @@ ghost use Rattle.ax_names.specs.Pieces.{all_apart};
 ghost use Rattle.ax_names.specs.Sessions.{AreSayingsOf, all_referred, referred_by};
 
 use crate::gather::Gather;
-use crate::referred::referred_node;
+use crate::hidden::is_hidden;
+use crate::name_from_content::said;
+use crate::scope::{Shown, Whole};
 use crate::session::Sayings;
 use ax_base::{NoMemory, ObjId, Steps, first_token};
 use ax_dom::Dom;
@@ -15,7 +17,7 @@ use std::alloc::Global;
 use std::sync::ledger::Ledger;
 
 /// How many tokens of an attribute refer to something.
-pub(crate) const MOST: u8 = 8;
+const MOST: u8 = 8;
 
 /// What is gathered of what the first eight tokens of a text refer to, joined by single spaces.
 pub(crate) fn referred_by<G: Gather, L: Ledger>(
@@ -99,4 +101,22 @@ pub(crate) fn push_node<G: Gather, L: Ledger>(
     let said: G = referred_node(alloc, dom, id, steps)?;
     into.append(&said)?;
     sayings.referred.keep(id, said)
+}
+
+/// What is gathered of what a node says that is referred to, made flat: where it is hidden, of all that it says.
+fn referred_node<G: Gather, L: Ledger>(
+    alloc: Global,
+    dom: &Dom,
+    id: ObjId,
+    steps: &mut Steps<L>,
+) -> Result<G, NoMemory>
+    requires known { IsTrue (has dom.now id) }
+    ensures { IfOk result (λ p. p ≡ G.of (referred_node dom.now id)) }
+{
+    if is_hidden(dom, id, steps) {
+        let all: G = said(alloc, dom, &mut Whole {}, id, steps)?;
+        return all.into_flat(alloc);
+    }
+    let shown: G = said(alloc, dom, &mut Shown {}, id, steps)?;
+    shown.into_flat(alloc)
 }

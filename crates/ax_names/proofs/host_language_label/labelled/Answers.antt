@@ -2,7 +2,7 @@ use Rattle.std.proofs.Common.{◌≡◌, ◌∙◌, [], true, rules, sym}
 use Rattle.std.specs.Prelude.{◌==◌}
 use Rattle.ax_names.proofs.Known.{label_known}
 use Rattle.ax_names.proofs.Calling.{labelled_is}
-use Rattle.ax_names.proofs.called.labelled.Goals as goal
+use Rattle.ax_names.proofs.host_language_label.labelled.Goals as goal
 
 pub push_node-requires-clause-known : goal.push_node-requires-clause-known
 push_node-requires-clause-known g c = label_known c.args.dom.now c.args.text.now c.in-Some-labels.label (sym (sym c.in-Some-labels.is ∙ c.in_ok-labels.ensures.value))

@@ -3,7 +3,7 @@ use Rattle.std.specs.Option.{option_map_or}
 use Rattle.std.proofs.lemmas.Result.{on_ok_weaker}
 use Rattle.ax_base.specs.References.{referred_node}
 use Rattle.ax_names.proofs.Known.{target_known}
-use Rattle.ax_names.proofs.refs.push_token.Goals as goal
+use Rattle.ax_names.proofs.aria_labelledby.push_token.Goals as goal
 
 pub push_node-requires-clause-known : goal.push_node-requires-clause-known
 push_node-requires-clause-known g c = target_known c.args.dom.now c.args.token.now c.in-Some.id (sym (sym c.in-Some.is ∙ c.in_ok-found.ensures.value))

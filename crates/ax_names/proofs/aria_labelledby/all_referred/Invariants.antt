@@ -3,7 +3,7 @@ use denote.Text.{Utf8}
 use Rattle.ax_base.specs.References.{referred_text}
 use Rattle.ax_names.specs.Sessions.{AreSayingsOf}
 use Rattle.ax_names.proofs.Gathered.{IsGatheredSoFar}
-use Rattle.ax_names.proofs.refs.all_referred.Given as goal
+use Rattle.ax_names.proofs.aria_labelledby.all_referred.Given as goal
 
 -- what is kept is that of the tokens so far, and what is left is text
 abbrev pub invariant-loop : goal.invariant-loop

@@ -1,6 +1,6 @@
 use Rattle.std.proofs.lemmas.Result.{on_ok_weaker}
 use Rattle.ax_base.specs.References.{referred_node}
-use Rattle.ax_names.proofs.refs.push_node.Goals as goal
+use Rattle.ax_names.proofs.aria_labelledby.push_node.Goals as goal
 
 pub returns-in-Some-clause-value : goal.returns-in-Some-clause-value
 returns-in-Some-clause-value g c =
