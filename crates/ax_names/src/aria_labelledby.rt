@@ -19,7 +19,7 @@ use std::sync::ledger::Ledger;
 /// How many tokens of an attribute refer to something.
 const MOST: u8 = 8;
 
-/// What is gathered of what the first eight tokens of a text refer to, joined by single spaces.
+/// Gathers what the first eight tokens of a text refer to, joined by single spaces.
 pub(crate) fn referred_by<G: Gather, L: Ledger>(
     alloc: Global,
     dom: &Dom,
@@ -35,7 +35,7 @@ pub(crate) fn referred_by<G: Gather, L: Ledger>(
     joined.into_flat(alloc)
 }
 
-/// What is gathered of what the first eight tokens of a text refer to, each behind a space.
+/// Gathers what the first eight tokens of a text refer to, each behind a space.
 fn all_referred<G: Gather, L: Ledger>(
     alloc: Global,
     dom: &Dom,
@@ -59,7 +59,7 @@ fn all_referred<G: Gather, L: Ledger>(
     Ok(joined)
 }
 
-/// Adds a space, and what a token refers to, if it does.
+/// Adds a space, and what the node says that a token names, if there is one.
 fn push_token<G: Gather, L: Ledger>(
     alloc: Global,
     dom: &Dom,
@@ -81,7 +81,7 @@ fn push_token<G: Gather, L: Ledger>(
     }
 }
 
-/// Adds what a node says that is referred to. It is put together once, and then looked up.
+/// Adds what a node says that a reference names. The first call for a node gathers it, later ones look it up.
 pub(crate) fn push_node<G: Gather, L: Ledger>(
     alloc: Global,
     dom: &Dom,
@@ -103,7 +103,7 @@ pub(crate) fn push_node<G: Gather, L: Ledger>(
     sayings.referred.keep(id, said)
 }
 
-/// What is gathered of what a node says that is referred to, made flat: where it is hidden, of all that it says.
+/// Gathers what a node says that a reference names, made flat. Of a node that is hidden, hidden parts count too.
 fn referred_node<G: Gather, L: Ledger>(
     alloc: Global,
     dom: &Dom,

@@ -56,7 +56,7 @@ fn has_block_tag(tag: &str) -> bool
     )
 }
 
-/// What is gathered of a text, between two spaces where it stands apart.
+/// Puts a text between two spaces where it stands apart.
 pub(crate) fn with_spaces<G: Gather>(alloc: Global, apart: bool, said: G) -> Result<G, NoMemory>
     ensures { IfOk result (λ g. (t : Chars) → said ≡ G.of t → g ≡ G.of (spaced apart t)) }
 {

@@ -1,4 +1,4 @@
-//! What is gathered of a text.
+//! Texts that are gathered, whole or as pieces.
 ghost use Rattle.std.specs.Prelude.{◌≡◌, ◌++◌, [], true, IfOk, OnOk};
 ghost use Rattle.ax_base.specs.Characters.{Chars, is_blank, flat};
 ghost use Rattle.ax_base.specs.Said.{spaced};
@@ -9,17 +9,17 @@ use crate::pieces_tell;
 use ax_base::{NoMemory, Text};
 use std::alloc::Global;
 
-/// What is gathered of a text that is put together: the text itself, or what is kept of it.
+/// A text that is put together from others: a whole text, or a piece, which is flat and cut.
 ///
-/// Where a call has no memory left, what was gathered is of no more use.
+/// Where a call has no memory left, the text is of no more use.
 pub trait Gather: Drop {
     ghost of: { Chars → Self };
 
-    /// Of the empty text. It takes no memory.
+    /// The empty text. It takes no memory.
     fn empty(alloc: Global) -> Self
         ensures { result ≡ of [] };
 
-    /// Of a text.
+    /// The text of a string.
     fn from_str(alloc: Global, text: &str) -> Result<Self, NoMemory>
         ensures { IfOk result (λ g. g ≡ of text.now) };
 

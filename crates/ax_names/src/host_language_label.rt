@@ -13,7 +13,7 @@ use ax_dom::Dom;
 use std::alloc::Global;
 use std::sync::ledger::Ledger;
 
-/// What is kept of the label that the host language gives to an element.
+/// The label that the host language gives to an element, as a piece.
 pub(crate) fn host_label<L: Ledger>(
     alloc: Global,
     dom: &Dom,
@@ -39,7 +39,7 @@ pub(crate) fn host_label<L: Ledger>(
     labelled(alloc, dom, names, attrs.text("id"), id, steps)
 }
 
-/// What is kept of what the first `label` for an id says, where that id names the node.
+/// What the first `label` for an id says, as a piece, where that id names the node.
 fn labelled<L: Ledger>(
     alloc: Global,
     dom: &Dom,

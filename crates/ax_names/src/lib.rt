@@ -40,7 +40,7 @@ pub use said::{said_plain, said_shown, said_whole};
 pub use session::Names;
 pub use text_alternative::{said_as_child, said_by};
 
-/// What is kept of texts tells what is kept of them put together, and what name they make.
+/// The pieces of some texts tell the piece of those texts put together, and the name that they make.
 ///
 /// It is a law of the definitions, which this call carries.
 pub fn pieces_tell()

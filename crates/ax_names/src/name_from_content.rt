@@ -18,7 +18,7 @@ use ax_roles::node_role;
 use std::alloc::Global;
 use std::sync::ledger::Ledger;
 
-/// What is gathered of what a node says.
+/// Gathers what a node says.
 pub fn said<G: Gather, S: Scope<G>, L: Ledger>(
     alloc: Global,
     dom: &Dom,
@@ -37,7 +37,7 @@ pub fn said<G: Gather, S: Scope<G>, L: Ledger>(
     said_by_cell(alloc, dom, scope, cell, steps)
 }
 
-/// What is gathered of what a node says, by its cell: nothing where it is left out.
+/// Gathers what the node of a cell says: nothing where the scope leaves it out.
 #[cycle(content)]
 fn said_by_cell<G: Gather, S: Scope<G>, L: Ledger>(
     alloc: Global,
@@ -64,8 +64,8 @@ fn said_by_cell<G: Gather, S: Scope<G>, L: Ledger>(
     }
 }
 
-/// What is gathered of what an element says that is not left out: what its references say, else what it says by itself, else
-/// its children, else its `title`.
+/// Gathers what an element says that counts: what its references say, else what it says by itself, else what its children say,
+/// else its `title`.
 #[cycle(content)]
 fn said_by_element<G: Gather, S: Scope<G>, L: Ledger>(
     alloc: Global,
@@ -89,7 +89,7 @@ fn said_by_element<G: Gather, S: Scope<G>, L: Ledger>(
     said_after(alloc, below, attrs)
 }
 
-/// What is gathered of what the children of a node say, joined: a copy where it is kept from before.
+/// Gathers what the children of a node say, or copies it where the scope has it from an earlier call.
 #[cycle(content)]
 fn said_below<G: Gather, S: Scope<G>, L: Ledger>(
     alloc: Global,
@@ -108,7 +108,7 @@ fn said_below<G: Gather, S: Scope<G>, L: Ledger>(
     said_by_children(alloc, dom, scope, id, steps)
 }
 
-/// What is gathered of what the children of a node say, joined.
+/// Gathers what the children of a node say, one after another.
 #[cycle(content)]
 pub(crate) fn said_by_children<G: Gather, S: Scope<G>, L: Ledger>(
     alloc: Global,
@@ -129,7 +129,7 @@ pub(crate) fn said_by_children<G: Gather, S: Scope<G>, L: Ledger>(
     Ok(joined)
 }
 
-/// What is gathered of what a child says, between spaces where it is a block that is not left out.
+/// Gathers what a child says, between spaces where it is a block that counts.
 #[cycle(content)]
 fn said_by_child<G: Gather, S: Scope<G>, L: Ledger>(
     alloc: Global,

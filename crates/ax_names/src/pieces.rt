@@ -7,9 +7,8 @@ use ax_base::{NoMemory, Text};
 use std::alloc::Global;
 use std::marker::Model;
 
-/// What is kept of a text that is joined from many, so that the name that it makes is flat and cut, and no more of it stays in
-/// memory: the first 512 characters of the flat text, whether more follow, whether the text began with white space, and, where no more
-/// follow, whether it ended with it.
+/// A text that is joined from many, flat and cut while it grows, since a name needs no more of it: the first 512 characters of the
+/// flat text, whether more follow, whether the text began with white space, and, where no more follow, whether it ended with it.
 ///
 /// Where a call has no memory left, the piece is of no more use.
 #[derive(Drop)]
@@ -28,7 +27,7 @@ impl Model for Piece {
 }
 
 impl Piece {
-    /// Of the empty text. It takes no memory.
+    /// The piece of the empty text. It takes no memory.
     pub fn empty(alloc: Global) -> Piece
         ensures { result ≡ piece_of [] }
     {
@@ -39,7 +38,7 @@ impl Piece {
         }
     }
 
-    /// Of a text.
+    /// The piece of a text.
     pub fn of(alloc: Global, text: &str) -> Result<Piece, NoMemory>
         ensures { IfOk result (λ p. p ≡ piece_of text.now) }
     {

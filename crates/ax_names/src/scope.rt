@@ -35,7 +35,7 @@ pub trait Scope<G: Gather> {
     fn is_left_out(&self, id: ObjId, node: &Body) -> bool
         ensures { result ≡ leaves_out (record { id = id; body = node.now }) };
 
-    /// What is gathered of what the `aria-labelledby` of an element refers to.
+    /// Gathers what the nodes say that the `aria-labelledby` of an element names.
     fn referred<L: Ledger>(
         &mut self,
         alloc: Global,
@@ -47,7 +47,7 @@ pub trait Scope<G: Gather> {
         ensures value { IfOk result (λ p. p ≡ G.of (refers dom.now (text_in (codes "aria-labelledby") attrs.now))) }
         ensures kept { OnOk result (keeps dom.now self.new) };
 
-    /// What is gathered of what the children of a node say, where it is kept from an earlier call.
+    /// What the children of a node say, where an earlier call has gathered it.
     fn kept_below(&self, id: ObjId) -> Option<&G>
         ensures { IfSome result (λ p. (d : Document) → keeps d self.now → p.now ≡ G.of (children_say d leaves_out (says d) id)) };
 

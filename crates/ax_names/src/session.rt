@@ -1,4 +1,4 @@
-//! What is looked up and kept while the names of one document are made.
+//! The look-ups and texts that the names of one document share.
 ghost use Rattle.std.specs.Prelude.{◌≡◌, IfOk, OnOk};
 ghost use Rattle.ax_base.specs.Document.{Document, target};
 ghost use Rattle.ax_base.specs.AccessibleNames.{first_label};
@@ -12,7 +12,7 @@ use ax_dom::Dom;
 use std::alloc::Global;
 use std::sync::ledger::Ledger;
 
-/// What is looked up and kept while the names of one document are made.
+/// The look-ups and texts that the names of one document share.
 ///
 /// Where a call has no memory left, it is of no more use.
 #[derive(Drop)]
@@ -33,8 +33,8 @@ impl Names {
     }
 }
 
-/// What is looked up and kept while the nodes of one document say what they say: which elements ids name, what nodes say that were
-/// referred to, and what the children say of nodes that are named from content.
+/// The look-ups and texts that the nodes of one document share: which elements ids name, what nodes say that references name, and
+/// what the children say of nodes that are named from content.
 ///
 /// Where a call has no memory left, it is of no more use.
 #[derive(Drop)]

@@ -13,8 +13,8 @@ use crate::tooltip::title_said;
 use ax_base::{Attrs, Body, NoMemory, Role, is_blank};
 use std::alloc::Global;
 
-/// What is kept of what a node of a role says for its parent: nothing where it is silent, and between spaces where it is a
-/// block.
+/// The piece that a node of a role gives to its parent: an empty one where the node is silent, and one between spaces where it
+/// is a block.
 pub fn said_as_child(
     alloc: Global,
     silent: bool,
@@ -32,7 +32,7 @@ pub fn said_as_child(
     with_spaces(alloc, is_block(node), said)
 }
 
-/// What is kept of what a node of a role says, from what its references say and from what its children say.
+/// The piece that a node of a role says, from the pieces that its references and its children say.
 pub fn said_by(
     alloc: Global,
     role: Role,
@@ -50,8 +50,8 @@ pub fn said_by(
     }
 }
 
-/// What is kept of what an element of a role says: what its references say, else its `aria-label`, else the text embedded in it,
-/// else what its children say, else its `title`, the first that is not blank.
+/// The piece that an element of a role says: what its references say, else its `aria-label`, else the text embedded in it, else
+/// what its children say, else its `title`, the first that is not blank.
 fn element_says(
     alloc: Global,
     role: Role,
@@ -68,8 +68,8 @@ fn element_says(
     said_after(alloc, below, attrs)
 }
 
-/// What is gathered of what an element of a role says before its children are asked: what its references say, else its
-/// `aria-label`, else the text embedded in it. It is nothing where none of them says anything but white space.
+/// Gathers what an element of a role says before its children are asked: what its references say, else its `aria-label`, else
+/// the text embedded in it. `None` means that all of them are blank.
 pub(crate) fn said_before<G: Gather>(
     alloc: Global,
     role: Role,
@@ -89,7 +89,7 @@ pub(crate) fn said_before<G: Gather>(
     Ok(Some(G::from_str(alloc, own)?))
 }
 
-/// What is gathered of what an element says once its children are asked: what they say, else its `title`.
+/// Gathers what an element says once its children are asked: what they say, else its `title`.
 pub(crate) fn said_after<G: Gather>(alloc: Global, below: G, attrs: &Attrs) -> Result<G, NoMemory>
     ensures { IfOk result (λ said. (b : Chars) → below ≡ G.of b → said ≡ G.of (said_or b (title_said attrs.now))) }
 {

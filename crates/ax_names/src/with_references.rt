@@ -47,7 +47,7 @@ impl<G: Gather> Scope<G> for Sayings<G> {
     }
 }
 
-/// What is gathered of what the children of a node say as parts of its name. It is put together once, and then looked up.
+/// Gathers what the children of a node say as parts of its name. The first call for a node gathers it, later ones copy it.
 pub(crate) fn content<G: Gather, L: Ledger>(
     alloc: Global,
     dom: &Dom,
