@@ -11,6 +11,7 @@ pub mod Filled
 pub mod IdParts
 pub mod Marked
 pub mod Repeats
+pub mod TakingOut
 pub mod Rising
 pub mod Shapes
 pub mod Joins

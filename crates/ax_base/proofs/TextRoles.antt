@@ -5,8 +5,7 @@ use Rattle.std.specs.Option.{option_or}
 use Rattle.std.specs.List.{list_all}
 use Rattle.std.proofs.lemmas.Bool.{false≢true}
 use Rattle.ax_base.specs.declared.attrs.Attr.{Attr}
-use Rattle.ax_base.specs.declared.body.Body.{Body}
-use Rattle.ax_base.specs.declared.body.Body.TheVariants.{Element, Words}
+use Rattle.ax_base.specs.declared.body.Body.TheVariants.{Element}
 use Rattle.ax_base.specs.declared.rect.Rect.{Rect}
 use Rattle.ax_base.specs.declared.role.Role.{Role}
 use Rattle.ax_base.specs.declared.role.Role.TheVariants.{Article, Button, Cell, Checkbox, Columnheader, Generic, Heading, Img, Link, List as ListRole, Listitem, Main, Navigation, NoRole, Paragraph, Radio, Row, Slider, Table, Text, Textbox}

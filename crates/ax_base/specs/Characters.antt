@@ -3,6 +3,7 @@ use Rattle.std.specs.Prelude.{ℕ, Bool, not, ◌&&◌, ◌==◌, if◌then◌el
 use Rattle.std.specs.Char.{is_ascii_whitespace}
 use Rattle.std.specs.List.{list_all, join_with_byte}
 use Rattle.std.specs.Fmt.{take_chars}
+use Rattle.ax_base.specs.declared.limits.TheConstants.{MAX_NAME_CHARACTERS}
 
 -- the bytes of a text
 abbrev pub Chars : Type 0
@@ -35,9 +36,9 @@ flat t = join_with_byte 32 (tokens t)
 abbrev pub gap : Chars → Bool → Chars
 gap out apart = if apart && not (length out == 0) then 32 ∷ [] else []
 
--- the first 512 characters; a space that then stands last stays
+-- the first characters, as many as a name may have; a space that then stands last stays
 abbrev pub cut : Chars → Chars
-cut t = take_chars 512 t
+cut t = take_chars MAX_NAME_CHARACTERS t
 
 -- the first text that is not blank, or the empty text
 abbrev pub first_said : List Chars → Chars

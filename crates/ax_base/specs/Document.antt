@@ -10,6 +10,7 @@ use Rattle.ax_base.specs.declared.body.Body.TheVariants.{Element, Words}
 use Rattle.ax_base.specs.Characters.{Chars}
 use Rattle.ax_base.specs.Attributes.{value_of}
 use Rattle.ax_base.specs.Recursion.{from_below}
+use Rattle.ax_base.specs.declared.limits.TheConstants.{MAX_DEPTH}
 
 -- a node: what it is, and its children in order
 pub record Node : Type 0 where
@@ -61,7 +62,7 @@ IsChild d n c = Contains (children d n) c
 
 -- what is made of each node out of itself and of its children, with what is made of those
 abbrev pub from_children : {A : Type 0} → (Spot → List (Spot × A) → A) → Document → ℕ → A
-from_children make d n = from_below make (spot d) (children d) 64 n
+from_children make d n = from_below make (spot d) (children d) MAX_DEPTH n
 
 -- a node, and then what is below each of its children
 abbrev pub preorder : Spot → List (Spot × List ℕ) → List ℕ
@@ -105,7 +106,7 @@ lineage_within (suc levels) d n = n ∷ option_map_or (lineage_within levels d) 
 
 -- a node and its ancestors, the nearest first
 abbrev pub lineage : Document → ℕ → List ℕ
-lineage d n = lineage_within 64 d n
+lineage d n = lineage_within MAX_DEPTH d n
 
 -- the ancestors of a node, the nearest first
 abbrev pub ancestors : Document → ℕ → List ℕ

@@ -7,6 +7,7 @@ use Rattle.std.specs.Map.{keys_of}
 use Rattle.ax_base.specs.declared.dense.Place.{Place}
 use Rattle.ax_base.specs.declared.dense.Place.TheVariants.{Empty, Full}
 use Rattle.ax_base.specs.contracts.dense.Place.{the_row}
+use Rattle.ax_base.specs.declared.limits.TheConstants.{NEAR_IDS}
 
 module _ {V : Type 0} where
   -- the value of a place
@@ -26,8 +27,8 @@ module _ {V : Type 0} where
 
   -- the ids of the first entries are small, and no others are
   pub record IsSplit (near far : List (ℕ × V)) : Type 0 where
-    pub below : AllByRecursion (λ k. k < 131072) (keys_of near)
-    pub above : AllByRecursion (λ k. 131072 ≤ k) (keys_of far)
+    pub below : AllByRecursion (λ k. k < NEAR_IDS) (keys_of near)
+    pub above : AllByRecursion (λ k. NEAR_IDS ≤ k) (keys_of far)
 
 -- a place with w as its value, if it has one
 abbrev pub written : {V : Type 0} → Place V → V → Place V

@@ -3,6 +3,7 @@ use Rattle.std.specs.Prelude.{◌≡◌, ℕ, ◌<◌, ◌≤◌, Bool, true, fa
 use Rattle.std.specs.List.{AllByRecursion}
 use Rattle.std.specs.Map.{keys_of}
 use Rattle.ax_base.specs.IdMaps.{filled_from}
+use Rattle.ax_base.specs.declared.limits.TheConstants.{NEAR_IDS}
 
 -- what stands at a place with a mark, and at one without
 abbrev pub mark_of : Bool → Option (Unit {0})
@@ -19,5 +20,5 @@ SameMarks old new = (q : ℕ) → slice_index_or (map mark_of new) q None ≡ sl
 
 -- the first ids are small, and the others are not
 pub record AreApart (near far : List ℕ) : Type 0 where
-  pub below : AllByRecursion (λ k. k < 131072) near
-  pub above : AllByRecursion (λ k. 131072 ≤ k) far
+  pub below : AllByRecursion (λ k. k < NEAR_IDS) near
+  pub above : AllByRecursion (λ k. NEAR_IDS ≤ k) far

@@ -4,6 +4,7 @@ use Rattle.ax_base.specs.Recursion.{from_below}
 use Rattle.ax_base.specs.Document.{Document, spot, children, root}
 use Rattle.ax_base.specs.Roles.{ignored}
 use Rattle.ax_base.specs.Context.{is_out}
+use Rattle.ax_base.specs.declared.limits.TheConstants.{MAX_DEPTH}
 
 -- what decides how a child is taken: its id, whether it is left out with what is below it, and whether it is left out alone
 pub record Standing : Type 0 where
@@ -21,7 +22,7 @@ kids_from n below = flat_map (λ c. if c.0.out then [] else (if c.0.ignored then
 
 -- the objects that hang on a node, in order: what its children give
 abbrev pub kids : Document → ℕ → List ℕ
-kids d n = from_below kids_from (standing d) (children d) 64 n
+kids d n = from_below kids_from (standing d) (children d) MAX_DEPTH n
 
 -- what a child gives: nothing, its kids or itself
 abbrev pub taken : Document → ℕ → List ℕ
@@ -29,7 +30,7 @@ taken d c = if is_out d c then [] else (if ignored (spot d c) then kids d c else
 
 -- what is made of each object out of itself and of its kids, with what is made of those
 abbrev pub from_kids : {A : Type 0} → (ℕ → List (ℕ × A) → A) → Document → ℕ → A
-from_kids make d n = from_below make (λ k. k) (kids d) 64 n
+from_kids make d n = from_below make (λ k. k) (kids d) MAX_DEPTH n
 
 -- an object, and then what is below each of its kids
 abbrev pub objects_from : ℕ → List (ℕ × List ℕ) → List ℕ

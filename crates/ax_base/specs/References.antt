@@ -7,6 +7,7 @@ use Rattle.ax_base.specs.Document.{Document, Spot, spot, children, target, text_
 use Rattle.ax_base.specs.Roles.{hides}
 use Rattle.ax_base.specs.Context.{is_hidden}
 use Rattle.ax_base.specs.Said.{said0, said_all, said_as, joined_children}
+use Rattle.ax_base.specs.declared.limits.TheConstants.{MAX_DEPTH, MAX_REFERENCES}
 
 -- what a node says that is referred to, made flat: where it is hidden, by itself or by an ancestor, all that it says. No reference is followed from there on
 abbrev pub referred_node : Document → ℕ → Chars
@@ -16,9 +17,9 @@ referred_node d n = flat (if is_hidden d n then said_all d n else said0 d n)
 abbrev pub referred_text : Document → Chars → Chars
 referred_text d token = option_map_or (referred_node d) (target d token) []
 
--- what the first eight tokens of an attribute refer to, joined by single spaces; repeats count (the limit is this project's own)
+-- what the first tokens, eight at most, of an attribute refer to, joined by single spaces; repeats count (the limit is this project's own)
 abbrev pub refs : Document → Chars → Spot → Chars
-refs d name n = joined_by_spaces (map (referred_text d) (take 8 (tokens (text_of name n.body))))
+refs d name n = joined_by_spaces (map (referred_text d) (take MAX_REFERENCES (tokens (text_of name n.body))))
 
 -- a node, and what its `aria-labelledby` refers to
 pub record Referring : Type 0 where
@@ -35,4 +36,4 @@ said1_from n below = if hides n.spot then [] else said_as n.text n.spot (joined_
 
 -- what a node says as a part of a name from content: its own references count, and those of what is below it (AccName 1.2, section 4.3.2, 'Name From Content')
 abbrev pub said1 : Document → ℕ → Chars
-said1 d n = from_below said1_from (referring d) (children d) 64 n
+said1 d n = from_below said1_from (referring d) (children d) MAX_DEPTH n

@@ -1,10 +1,11 @@
 -- Documents that are trees.
-use Rattle.std.specs.Prelude.{◌≡◌, ◌≢◌, ◌<◌, ◌≤◌, ℕ, suc, true, false, Some, List, [], length, get_or}
+use Rattle.std.specs.Prelude.{◌≡◌, ◌≢◌, ◌<◌, ◌≤◌, ◌+◌, ℕ, suc, true, false, Some, List, [], length, get_or}
 use Rattle.std.specs.List.Sorted.{IsStrictlyIncreasing}
 use Rattle.ax_base.specs.Document.{Document, root, has, ids, body, is_text, children, IsChild}
 use Rattle.ax_base.specs.Rects.{HasRectsWithin}
 use Rattle.ax_base.specs.Runs.{KeepsRuns}
 use Rattle.ax_base.specs.Texts.{IsFitting}
+use Rattle.ax_base.specs.declared.limits.TheConstants.{MAX_DEPTH, MAX_INSERTS}
 
 -- nothing stands at two places of a list
 abbrev pub HasNoRepeats : List ℕ → Type 0
@@ -19,7 +20,7 @@ pub record IsTree (d : Document) : Type 0 where
   pub root_element : is_text (body d root) ≡ false
   pub known : (n c : ℕ) → IsChild d n c → has d c ≡ true
   pub deeper : (n c : ℕ) → IsChild d n c → level c ≡ suc (level n)
-  pub shallow : (n : ℕ) → level n ≤ 64
+  pub shallow : (n : ℕ) → level n ≤ MAX_DEPTH
   pub one_parent : (m n c : ℕ) → IsChild d m c → IsChild d n c → m ≡ n
   pub hung : (n : ℕ) → has d n ≡ true → n ≢ root → (p : ℕ) × IsChild d p n
   -- no child stands twice
@@ -27,7 +28,7 @@ pub record IsTree (d : Document) : Type 0 where
   pub bare : (n : ℕ) → is_text (body d n) ≡ true → children d n ≡ []
   pub rising : IsStrictlyIncreasing (ids d)
   -- the root, and at most 65,536 others
-  pub few : length (ids d) ≤ 65537
+  pub few : length (ids d) ≤ MAX_INSERTS + 1
   -- no text is too long
   pub fits : (n : ℕ) → IsFitting (body d n)
   -- the runs of each text go from its begin to its end

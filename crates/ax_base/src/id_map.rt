@@ -7,13 +7,11 @@ ghost use Rattle.std.specs.Map.{lookup, remove_entry};
 ghost use Rattle.std.specs.BTreeMap.{is_at, insert_entry};
 
 use crate::dense::Dense;
+use crate::limits::NEAR_IDS;
 use crate::{NoMemory, ObjId};
 use std::alloc::Global;
 use std::collections::BTreeMap;
 use std::marker::Model;
-
-/// Ids below it have their values in a list.
-pub(crate) const NEAR: u32 = 131_072;
 
 /// Values by ids: those of ids below 131,072 in a list that is as long as the greatest of them that was ever put in, at most
 /// that many places of a tag and a pointer to the value, and those of greater ids in a tree map. A look-up of a small id reads
@@ -59,7 +57,7 @@ impl<V: Drop> IdMap<V> {
     pub fn get(&self, id: ObjId) -> Option<&V>
         ensures { option_copied result ≡ lookup (is_at (nat_cmp id)) self.now }
     {
-        if id.0 < NEAR {
+        if id.0 < NEAR_IDS {
             self.near.get(id.0)
         } else {
             self.far.get(&id.0)
@@ -78,7 +76,7 @@ impl<V: Drop> IdMap<V> {
         ensures* writes_back { sem 𝓛 (lends_value V.row self.entry id result) }
         ensures value { option_copied_mut result ≡ lookup (is_at (nat_cmp id)) self.old }
     {
-        if id.0 < NEAR {
+        if id.0 < NEAR_IDS {
             self.near.get_mut(id.0)
         } else {
             self.far.get_mut(&id.0)
@@ -90,7 +88,7 @@ impl<V: Drop> IdMap<V> {
         ensures ok { OnOk result (self.new ≡ insert_entry nat_cmp self.old id value) }
         ensures err { OnErr result (self.new ≡ self.old) }
     {
-        if id.0 < NEAR {
+        if id.0 < NEAR_IDS {
             self.near.put(id.0, value)?;
             return Ok(());
         }
@@ -102,7 +100,7 @@ impl<V: Drop> IdMap<V> {
     pub fn remove(&mut self, id: ObjId)
         ensures { self.new ≡ remove_entry (is_at (nat_cmp id)) self.old }
     {
-        if id.0 < NEAR {
+        if id.0 < NEAR_IDS {
             self.near.remove(id.0);
         } else {
             drop_far(&mut self.far, id.0);

@@ -7,7 +7,7 @@ ghost use Rattle.std.specs.BTreeMap.{is_at};
 ghost use Rattle.std.specs.BTreeSet.{insert_key};
 ghost use Rattle.ax_base.specs.IdSets.{SameMarks};
 
-use crate::id_map::NEAR;
+use crate::limits::NEAR_IDS;
 use crate::{NoMemory, ObjId};
 use std::alloc::Global;
 use std::collections::BTreeSet;
@@ -117,7 +117,7 @@ impl IdSet {
     pub fn has(&self, id: ObjId) -> bool
         ensures { result ≡ list_any (is_at (nat_cmp id)) self.now }
     {
-        if id.0 < NEAR {
+        if id.0 < NEAR_IDS {
             self.near.has(id.0)
         } else {
             self.far.contains(&id.0)
@@ -129,7 +129,7 @@ impl IdSet {
         ensures ok { OnOk result (self.new ≡ insert_key nat_cmp self.old id) }
         ensures err { OnErr result (self.new ≡ self.old) }
     {
-        if id.0 < NEAR {
+        if id.0 < NEAR_IDS {
             self.near.add(id.0)?;
             return Ok(());
         }
@@ -151,7 +151,7 @@ impl IdSet {
     pub fn remove(&mut self, id: ObjId)
         ensures { self.new ≡ remove_key (is_at (nat_cmp id)) self.old }
     {
-        if id.0 < NEAR {
+        if id.0 < NEAR_IDS {
             self.near.remove(id.0);
         } else {
             self.far.remove(&id.0);

@@ -17,6 +17,9 @@ impl Model for ObjId {
 }
 
 impl ObjId {
+    /// The root of the document, and of the tree.
+    pub const ROOT: ObjId = ObjId(1);
+
     /// The id as a number.
     pub fn number(self) -> u32
         ensures { result ≡ self }

@@ -8,6 +8,7 @@ mod focusable;
 mod id_map;
 mod id_set;
 mod ids;
+mod limits;
 mod lists;
 mod memory;
 mod notices;
@@ -15,6 +16,8 @@ mod pieces;
 mod quote;
 mod rect;
 mod role;
+mod seeking;
+mod sequence;
 mod states;
 mod steps;
 mod text;
@@ -27,6 +30,9 @@ pub use focusable::{has_conflict, has_counted, has_tab_index, is_control, is_fie
 pub use id_map::IdMap;
 pub use id_set::IdSet;
 pub use ids::{Moment, ObjId, Who};
+pub use limits::{
+    MAX_DEPTH, MAX_INSERTS, MAX_NAME_CHARACTERS, MAX_REFERENCES, MAX_TEXT_CHARACTERS,
+};
 pub use lists::{Ids, Runs};
 pub use memory::NoMemory;
 pub use notices::{Notice, NoticeKind, Notices};
@@ -34,6 +40,8 @@ pub use pieces::first_token;
 pub use quote::push_quoted;
 pub use rect::{Rect, Run, contains_point, unite};
 pub use role::{Role, all_roles_are_listed, role_word};
+pub use seeking::first_place;
+pub use sequence::Sequence;
 pub use states::{Checked, Live, States};
 pub use steps::Steps;
 pub use text::{Text, cap512};

@@ -4,7 +4,7 @@ ghost use Rattle.std.specs.String.{string_bytes};
 ghost use Rattle.std.specs.Str.{chars};
 ghost use Rattle.ax_base.specs.Characters.{is_blank, cut};
 
-use crate::NoMemory;
+use crate::{MAX_NAME_CHARACTERS, NoMemory};
 use std::alloc::{AllocError, Global};
 use std::marker::Model;
 
@@ -124,7 +124,7 @@ fn first_characters(alloc: Global, text: &str) -> Result<String, AllocError>
     ensures { IfOk result (λ s. string_bytes s ≡ cut text.now) }
 {
     let mut front = String::new(alloc);
-    for c in text.chars().take(512) {
+    for c in text.chars().take(MAX_NAME_CHARACTERS) {
         front.push(c)?;
     }
     Ok(front)

@@ -1,11 +1,9 @@
 -- Copies of all nodes of a document.
-use Rattle.std.proofs.Common.{◌≡◌, ◌≢◌, ◌⊎◌, inl, inr, ℕ, zero, suc, ◌+◌, ◌<◌, ◌≤◌, List, [], ◌∷◌, take, length, get_or, Bool, true, false, cond, ◌||◌, Option, Some, None, is_some, Contains, refl, sym, ap, subst, ◌∙◌, arith}
+use Rattle.std.proofs.Common.{◌≡◌, inl, inr, ℕ, zero, suc, ◌+◌, ◌<◌, ◌≤◌, List, [], take, length, get_or, Bool, true, false, cond, ◌||◌, Option, Some, None, is_some, Contains, refl, sym, ap, subst, ◌∙◌, arith}
 use Rattle.std.specs.Prelude.{nat_eq}
 use Rattle.std.specs.List.{list_any}
 use Rattle.std.specs.List.Sorted.{IsStrictlyIncreasing}
-use Rattle.std.specs.Ordering.{nat_cmp}
 use Rattle.std.specs.Map.{keys_of}
-use Rattle.std.specs.BTreeMap.{insert_entry}
 use Rattle.std.proofs.lemmas.Bool.{false≢true, eq-eqb}
 use Rattle.std.proofs.lemmas.Bool.Decides.{eqb_tells}
 use Rattle.std.proofs.lemmas.List.{take_all, get_or_default}
@@ -13,7 +11,7 @@ use Rattle.std.proofs.lemmas.List.Folds.{list_any_more}
 use Rattle.std.proofs.lemmas.Map.Made.{keys_of-map_values}
 use Rattle.ax_base.specs.Document.{Document, root, has, order}
 use Rattle.ax_base.specs.Trees.{IsTree}
-use Rattle.ax_base.proofs.Lookups.{finds, finds_is, found_is, lookup-insert_entry, keys-insert_entry, rising-insert_key}
+use Rattle.ax_base.proofs.Lookups.{finds_is, found_is, lookup-insert_entry, keys-insert_entry, rising-insert_key}
 use Rattle.ax_base.proofs.Places.{has_children}
 use Rattle.ax_base.proofs.SameLookups.{same_lookups}
 use Rattle.ax_dom.specs.declared.cell.Slot.{Slot}

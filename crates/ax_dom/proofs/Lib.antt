@@ -3,6 +3,7 @@ pub mod Fitting
 pub mod Bounded
 pub mod RightRuns
 pub mod Placed
+pub mod FirstPlaces
 pub mod Kept
 pub mod Without
 pub mod Subtrees

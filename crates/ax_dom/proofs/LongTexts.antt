@@ -1,5 +1,5 @@
 -- A text has no more characters than bytes.
-use Rattle.std.proofs.Common.{◌≡◌, ℕ, ◌≤◌, List, length, Bool, false, ap, arith}
+use Rattle.std.proofs.Common.{◌≡◌, ℕ, ◌≤◌, List, length, false, ap, arith}
 use Rattle.std.specs.Str.{chars, IsUtf8}
 use Rattle.std.proofs.lemmas.Bool.Decides.{nat_tests}
 use Rattle.std.proofs.lemmas.Str.{encodes-chars, length-le-encodes}

@@ -22,7 +22,7 @@ use Rattle.ax_dom.specs.Slots.{cell_of, slot_at, node_of, nodes_of, document_of,
 use Rattle.ax_dom.specs.Subtrees.{subtree, is_within}
 use Rattle.ax_dom.specs.Changes.{unhung_from, moved}
 use Rattle.ax_dom.specs.Refusals.{MayMove}
-use Rattle.ax_dom.specs.Rewrites.{IsRewritten, taken_out, with_list, with_parent, lifted, lifted_among}
+use Rattle.ax_dom.specs.Rewrites.{IsRewritten, taken_out, with_list, hung_anew, with_parent, lifted, lifted_among}
 use Rattle.ax_dom.proofs.Placed.{Contains-cons_cases}
 use Rattle.ax_dom.proofs.Kept.{has_is, node_there}
 use Rattle.ax_dom.proofs.Rewrites.{rewritten_then}
@@ -75,7 +75,7 @@ module _ (es : List (ℕ × Slot)) (focus : Option ℕ) (used : List ℕ) (kept 
       none_deep xs m inside none = list_any_member (λ m. nat_lt 64 (depth d into + 1 + (depth d m - depth d n))) xs m inside none
 
   module _ (list : List ℕ) (listed : list ≡ placed before n (without n (children d into))) (base top : ℕ) (base_is : base ≡ depth d into + 1) (top_is : top ≡ depth d n)
-      (es1 es2 es3 es4 : List (ℕ × Slot)) (first : IsRewritten es es1 (taken_out (parent d n) n)) (second : IsRewritten es1 es2 (with_list into list))
+      (es2 es3 es4 : List (ℕ × Slot)) (second : IsRewritten es es2 (hung_anew (parent d n) n into list))
       (third : IsRewritten es2 es3 (with_parent n into)) (fourth : IsRewritten es3 es4 (lifted_among (subtree d n) base top)) where
     abbrev after : Document
     after = moved d n into before
@@ -86,8 +86,7 @@ module _ (es : List (ℕ × Slot)) (focus : Option ℕ) (used : List ℕ) (kept 
 
     all : IsRewritten es es4 made
     all = rewritten_then es es3 es4 (λ q s. with_parent n into q (with_list into list q (taken_out (parent d n) n q s))) (lifted_among (subtree d n) base top)
-        (rewritten_then es es2 es3 (λ q s. with_list into list q (taken_out (parent d n) n q s)) (with_parent n into)
-        (rewritten_then es es1 es2 (taken_out (parent d n) n) (with_list into list) first second) third) fourth
+        (rewritten_then es es2 es3 (λ q s. with_list into list q (taken_out (parent d n) n q s)) (with_parent n into) second third) fourth
 
     keys_same : keys_of (nodes_of es4) ≡ ids after
     keys_same = keys_of-map_values node_of es4 ∙ all.same_ids ∙ sym (keys_of-map_values node_of es) ∙ sym (ids_moved d t n into before apart may.known may.parent_known may.element out low)
@@ -188,7 +187,7 @@ module _ (es : List (ℕ × Slot)) (focus : Option ℕ) (used : List ℕ) (kept 
 module _ (es : List (ℕ × Slot)) (focus : Option ℕ) (used : List ℕ) (kept : IsKept (document_of es focus used) es) (now : Document) (view : document_of es focus used ≡ now) (n into : ℕ) (before : Option ℕ) (may : MayMove now n into before)
     (list : List ℕ) (listed : list ≡ placed before n (without n (children now into))) (base top : ℕ) (base_is : base ≡ depth now into + 1) (top_is : top ≡ depth now n) (from : Option ℕ) (from_is : from ≡ parent now n)
     (whole : List ℕ) (whole_is : whole ≡ subtree now n)
-    (es1 es2 es3 es4 : List (ℕ × Slot)) (first : IsRewritten es es1 (taken_out from n)) (second : IsRewritten es1 es2 (with_list into list))
+    (es2 es3 es4 : List (ℕ × Slot)) (second : IsRewritten es es2 (hung_anew from n into list))
     (third : IsRewritten es2 es3 (with_parent n into)) (fourth : IsRewritten es3 es4 (lifted_among whole base top)) where
   abbrev here : Document
   here = document_of es focus used
@@ -205,14 +204,14 @@ module _ (es : List (ℕ × Slot)) (focus : Option ℕ) (used : List ℕ) (kept 
   top_here : top ≡ depth here n
   top_here = top_is ∙ ap (λ x. depth x n) (sym view)
 
-  first_here : IsRewritten es es1 (taken_out (parent here n) n)
-  first_here = subst (λ o. IsRewritten es es1 (taken_out o n)) (from_is ∙ ap (λ x. parent x n) (sym view)) first
+  second_here : IsRewritten es es2 (hung_anew (parent here n) n into list)
+  second_here = subst (λ o. IsRewritten es es2 (hung_anew o n into list)) (from_is ∙ ap (λ x. parent x n) (sym view)) second
 
   fourth_here : IsRewritten es3 es4 (lifted_among (subtree here n) base top)
   fourth_here = subst (λ xs. IsRewritten es3 es4 (lifted_among xs base top)) (whole_is ∙ ap (λ x. subtree x n) (sym view)) fourth
 
   pub document_moved : document_of es4 focus used ≡ moved now n into before
-  document_moved = document_same es focus used kept n into before may_here list listed_here base top base_here top_here es1 es2 es3 es4 first_here second third fourth_here ∙ ap (λ x. moved x n into before) view
+  document_moved = document_same es focus used kept n into before may_here list listed_here base top base_here top_here es2 es3 es4 second_here third fourth_here ∙ ap (λ x. moved x n into before) view
 
   pub kept_moved : IsKept (document_of es4 focus used) es4
-  kept_moved = kept_same_cells es focus used kept n into before may_here list listed_here base top base_here top_here es1 es2 es3 es4 first_here second third fourth_here
+  kept_moved = kept_same_cells es focus used kept n into before may_here list listed_here base top base_here top_here es2 es3 es4 second_here third fourth_here

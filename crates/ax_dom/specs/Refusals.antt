@@ -17,6 +17,8 @@ use Rattle.ax_dom.specs.declared.edit.Edit.{Edit}
 use Rattle.ax_dom.specs.declared.edit.Edit.TheVariants.{InsertElement, InsertText, Remove, Move, Chars as NewChars, Set, Unset, SetRuns, Frame, Focus}
 use Rattle.ax_dom.specs.Used.{is_used}
 use Rattle.ax_dom.specs.Subtrees.{subtree}
+use Rattle.ax_base.specs.declared.limits.TheConstants.{MAX_DEPTH, MAX_INSERTS, MAX_TEXT_CHARACTERS}
+use Rattle.ax_dom.specs.declared.dom.refusals.TheConstants.{MAX_VALUE_BYTES}
 
 -- no child to stand before is given, or it is a child of `into`
 abbrev pub is_place : Document → ℕ → Option ℕ → Bool
@@ -29,7 +31,7 @@ is_taken d n = n == root || is_used d n
 
 -- whether an attribute value has more than 4,096 bytes
 abbrev pub is_long_value : Chars → Bool
-is_long_value value = nat_lt 4096 (length value)
+is_long_value value = nat_lt MAX_VALUE_BYTES (length value)
 
 -- whether some attribute has such a value
 abbrev pub has_long_value : List Attr → Bool
@@ -47,7 +49,7 @@ length_of (Element tag attrs frame) = 0
 
 -- whether a text has more than 65,536 characters
 abbrev pub is_long_text : Chars → Bool
-is_long_text t = nat_lt 65536 (length (chars t))
+is_long_text t = nat_lt MAX_TEXT_CHARACTERS (length (chars t))
 
 -- the document lacks a node that the edit names, an insert's own id aside
 abbrev pub lacks_node : Document → Edit → Bool
@@ -103,19 +105,19 @@ removes_root _ = false
 
 -- whether some node would have a depth over 64, if n hung on `into`: it is as far below n as it was
 abbrev pub is_too_high : Document → ℕ → ℕ → Bool
-is_too_high d n into = list_any (λ m. nat_lt 64 (depth d into + 1 + (depth d m - depth d n))) (subtree d n)
+is_too_high d n into = list_any (λ m. nat_lt MAX_DEPTH (depth d into + 1 + (depth d m - depth d n))) (subtree d n)
 
 -- some node would have a depth over 64
 abbrev pub goes_too_deep : Document → Edit → Bool
-goes_too_deep d (InsertElement id into before tag attrs) = nat_lt 64 (depth d into + 1)
-goes_too_deep d (InsertText id into before new) = nat_lt 64 (depth d into + 1)
+goes_too_deep d (InsertElement id into before tag attrs) = nat_lt MAX_DEPTH (depth d into + 1)
+goes_too_deep d (InsertText id into before new) = nat_lt MAX_DEPTH (depth d into + 1)
 goes_too_deep d (Move id into before) = is_too_high d id into
 goes_too_deep d _ = false
 
 -- 65,536 nodes were inserted before
 abbrev pub is_one_too_many : Document → Edit → Bool
-is_one_too_many d (InsertElement id into before tag attrs) = nat_le 65536 (length d.used)
-is_one_too_many d (InsertText id into before new) = nat_le 65536 (length d.used)
+is_one_too_many d (InsertElement id into before tag attrs) = nat_le MAX_INSERTS (length d.used)
+is_one_too_many d (InsertText id into before new) = nat_le MAX_INSERTS (length d.used)
 is_one_too_many d _ = false
 
 -- the runs of an edit are not those that a node may have
@@ -169,8 +171,8 @@ pub record MayInsert (d : Document) (id into : ℕ) (before : Option ℕ) (b : B
   pub fresh : is_used d id ≡ false
   pub place : is_place d into before ≡ true
   pub element : is_text (body d into) ≡ false
-  pub low : depth d into < 64
-  pub room : length d.used < 65536
+  pub low : depth d into < MAX_DEPTH
+  pub room : length d.used < MAX_INSERTS
   pub fits : IsFitting b
   pub runs : KeepsRuns b
   pub within : HasRectsWithin b

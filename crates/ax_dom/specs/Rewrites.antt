@@ -6,6 +6,7 @@ use Rattle.std.specs.Map.{keys_of}
 use Rattle.ax_dom.specs.declared.cell.Slot.{Slot}
 use Rattle.ax_dom.specs.Places.{without}
 use Rattle.ax_dom.specs.Slots.{slot_at}
+use Rattle.ax_base.specs.declared.limits.TheConstants.{MAX_DEPTH}
 
 -- The ids stay, and each slot is made of its id and of what it was.
 pub record IsRewritten (old new : List (ℕ × Slot)) (make : ℕ → Slot → Slot) : Type 0 where
@@ -20,13 +21,17 @@ taken_out from n q s = if option_map_or (λ p. p == q) from false then record s 
 abbrev pub with_list : ℕ → List ℕ → ℕ → Slot → Slot
 with_list n list q s = if n == q then record s { children = list } else s
 
+-- a node hangs on its former parent no more, and `into` has other children
+abbrev pub hung_anew : Option ℕ → ℕ → ℕ → List ℕ → ℕ → Slot → Slot
+hung_anew from n into list q s = with_list into list q (taken_out from n q s)
+
 -- a node has another parent
 abbrev pub with_parent : ℕ → ℕ → ℕ → Slot → Slot
 with_parent n parent q s = if n == q then record s { cell = record s.cell { parent = Some parent } } else s
 
 -- a node is as deep below a level as it was below another
 abbrev pub lifted : ℕ → ℕ → Slot → Slot
-lifted base top s = record s { cell = record s.cell { depth = min (base + min (s.cell.depth - top) 64) 64 } }
+lifted base top s = record s { cell = record s.cell { depth = min (base + min (s.cell.depth - top) MAX_DEPTH) MAX_DEPTH } }
 
 -- so is one node
 abbrev pub lifted_at : ℕ → ℕ → ℕ → ℕ → Slot → Slot

@@ -47,7 +47,7 @@ impl Dom {
         ensures { IfOk result (λ dom. dom ≡ new_document) }
     {
         let cell = Cell {
-            id: ObjId(1),
+            id: ObjId::ROOT,
             parent: None,
             depth: 0,
             body: Body::Element {
@@ -58,7 +58,7 @@ impl Dom {
         };
         let children = Ids::new(alloc);
         let mut slots = Slots::new(alloc);
-        slots.add(ObjId(1), Slot { cell, children })?;
+        slots.add(ObjId::ROOT, Slot { cell, children })?;
         Ok(Dom {
             slots,
             focus: None,

@@ -1,6 +1,7 @@
 //! The nodes of the document by their ids.
-ghost use Rattle.std.specs.Prelude.{◌≡◌, ◌≤◌, ℕ, length, OnOk, OnErr, [], Some, None, IsSome, is_some, option_copied, ◌<◌, not, nat_eq, filter, IfOk};
+ghost use Rattle.std.specs.Prelude.{◌≡◌, ◌==◌, false, ◌≤◌, ℕ, length, OnOk, OnErr, [], Some, None, IsSome, is_some, option_copied, ◌<◌, not, nat_eq, filter, IfOk};
 ghost use Rattle.std.specs.List.{insert, list_any};
+ghost use Rattle.std.specs.Option.{option_map_or};
 ghost use Rattle.std.specs.List.Sorted.{IsStrictlyIncreasing};
 ghost use Rattle.std.specs.Ordering.{nat_cmp};
 ghost use Rattle.std.specs.BTreeMap.{is_at, insert_entry};
@@ -11,12 +12,12 @@ ghost use Rattle.ax_dom.specs.Copies.{AreCopiedAt, with_slot};
 ghost use Rattle.ax_dom.specs.Slots.{slot_at};
 ghost use Rattle.ax_dom.specs.Bodies.{slot_after};
 ghost use Rattle.ax_dom.specs.Places.{placed, placed_before, without};
-ghost use Rattle.ax_dom.specs.Rewrites.{IsRewritten, taken_out, with_list, with_parent, lifted_at, lifted_among};
+ghost use Rattle.ax_dom.specs.Rewrites.{IsRewritten, taken_out, with_list, hung_anew, with_parent, lifted_at, lifted_among};
 
 use crate::bodies::amend_body;
 use crate::cell::Slot;
 use crate::edit::Edit;
-use ax_base::{IdMap, Ids, NoMemory, ObjId};
+use ax_base::{IdMap, Ids, MAX_DEPTH, NoMemory, ObjId, first_place};
 use std::alloc::Global;
 use std::marker::Model;
 
@@ -163,6 +164,17 @@ impl Slots {
         }
     }
 
+    /// Takes an id out of the children of `from`, its parent, if it has one, and gives `into` other children. Where both are
+    /// the same node, the list that it had is not looked at.
+    pub fn hang_anew(&mut self, from: &Option<ObjId>, id: ObjId, into: ObjId, list: Ids)
+        ensures { IsRewritten self.old self.new (hung_anew from.now id into list) }
+    {
+        if !is_parent(from, into) {
+            self.take_out(from, id);
+        }
+        self.set_children(into, list);
+    }
+
     /// Gives a node another parent.
     pub fn set_parent(&mut self, id: ObjId, parent: ObjId)
         ensures { IsRewritten self.old self.new (with_parent id parent) }
@@ -175,7 +187,7 @@ impl Slots {
     /// Makes each of some nodes as deep below the depth `base` as it was below the depth `top`.
     pub fn lift(&mut self, ids: &[ObjId], base: u32, top: u32)
         requires once { HasNoRepeats ids.now }
-        requires low { base < 1000 }
+        requires low { base ≤ 256 }
         ensures { IsRewritten self.old self.new (lifted_among ids.now base top) }
     {
         for id in ids {
@@ -185,12 +197,14 @@ impl Slots {
 
     /// Makes a node as deep below the depth `base` as it was below the depth `top`.
     fn lift_one(&mut self, id: ObjId, base: u32, top: u32)
-        requires { base < 1000 }
+        requires { base ≤ 256 }
         ensures { IsRewritten self.old self.new (lifted_at id base top) }
     {
         if let Some(slot) = self.map.get_mut(id) {
-            let below = u32::from(slot.cell.depth).saturating_sub(top).min(64);
-            slot.cell.depth = (base + below).min(64) as u8;
+            let below = u32::from(slot.cell.depth)
+                .saturating_sub(top)
+                .min(MAX_DEPTH);
+            slot.cell.depth = (base + below).min(MAX_DEPTH) as u8;
         }
     }
 
@@ -202,6 +216,16 @@ impl Slots {
         for id in ids {
             self.remove(*id);
         }
+    }
+}
+
+/// Whether a node is the parent of another, which has `parent`.
+fn is_parent(parent: &Option<ObjId>, id: ObjId) -> bool
+    ensures { result ≡ option_map_or (λ p. p == id) parent.now false }
+{
+    match parent {
+        Some(p) => p.0 == id.0,
+        None => false,
     }
 }
 
@@ -224,12 +248,7 @@ fn place_of(ids: &[ObjId], b: ObjId) -> usize
     ensures within { result ≤ length ids.now }
     ensures place { (id : ℕ) → insert ids.now result id ≡ placed_before b id ids.now }
 {
-    for (i, x) in ids.iter().enumerate() {
-        if x.0 == b.0 {
-            return i;
-        }
-    }
-    ids.len()
+    first_place(ids, 0, b)
 }
 
 /// Some ids with one of them before another, or at the end, and nowhere else.
@@ -250,11 +269,7 @@ pub fn placed_anew(
 fn others(alloc: Global, ids: &[ObjId], id: ObjId) -> Result<Ids, NoMemory>
     ensures { IfOk result (λ list. list ≡ without id ids.now) }
 {
-    let mut list = Ids::new(alloc);
-    for x in ids {
-        if x.0 != id.0 {
-            list.push(*x)?;
-        }
-    }
+    let mut list = Ids::from_vec(Vec::from_slice(alloc, ids)?);
+    list.take_out(id);
     Ok(list)
 }

@@ -51,7 +51,7 @@ fn put_root<L: Ledger>(
     ensures records { OnOk result (records.new ≡ with_records dom.now records.old (put_order dom.now root)) }
     ensures names { OnOk result (AreNamesOf dom.now names.new) }
 {
-    let Some(cell) = dom.cell(ObjId(1), steps) else {
+    let Some(cell) = dom.cell(ObjId::ROOT, steps) else {
         return Ok(());
     };
     let role = node_role(cell.id, &cell.body);

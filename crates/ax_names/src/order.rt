@@ -17,7 +17,7 @@ pub fn tree_order<L: Ledger>(
     ensures { IfOk result (λ ids. ids ≡ order dom.now) }
 {
     let mut nodes = Ids::new(alloc);
-    put_node(dom, ObjId(1), &mut nodes, steps)?;
+    put_node(dom, ObjId::ROOT, &mut nodes, steps)?;
     Ok(nodes)
 }
 

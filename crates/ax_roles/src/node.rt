@@ -14,7 +14,7 @@ pub fn node_role(id: ObjId, node: &Body) -> Role
     match node {
         Body::Words { .. } => Role::Text,
         Body::Element { tag, attrs, .. } => {
-            if id.number() == 1 {
+            if id == ObjId::ROOT {
                 Role::Document
             } else {
                 role_of(tag.as_str(), attrs)
@@ -27,7 +27,7 @@ pub fn node_role(id: ObjId, node: &Body) -> Role
 pub fn node_hides(id: ObjId, node: &Body) -> bool
     ensures { result ≡ roles.hides (record { id = id; body = node.now }) }
 {
-    id.number() != 1 && body_hides(node)
+    id != ObjId::ROOT && body_hides(node)
 }
 
 fn body_hides(node: &Body) -> bool
@@ -44,7 +44,7 @@ pub fn node_is_ignored(id: ObjId, role: Role, node: &Body) -> bool
     requires { role ≡ roles.role_of (id == root) node.now }
     ensures { result ≡ roles.ignored (record { id = id; body = node.now }) }
 {
-    id.number() != 1 && body_is_ignored(role, node)
+    id != ObjId::ROOT && body_is_ignored(role, node)
 }
 
 fn body_is_ignored(role: Role, node: &Body) -> bool

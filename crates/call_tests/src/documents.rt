@@ -17,7 +17,7 @@ fn paragraph(alloc: Global, id: u32) -> Result<Edit, Fail>
 {
     Ok(Edit::InsertElement {
         id: ObjId(id),
-        into: ObjId(1),
+        into: ObjId::ROOT,
         before: None,
         tag: Text::from_str(alloc, "p")?,
         attrs: Attrs::new(alloc),
@@ -42,8 +42,8 @@ fn read<L: Ledger>(rt: &impl Abort, dom: &Dom, blank: Blank)
 {
     let (book, share) = blank.open::<L>();
     let mut steps = Steps::new(book, share);
-    assert_eq!(rt; dom.children(ObjId(1), &mut steps), [ObjId(5)].as_slice());
-    assert_eq!(rt; dom.parent(ObjId(5), &mut steps), Some(ObjId(1)));
+    assert_eq!(rt; dom.children(ObjId::ROOT, &mut steps), [ObjId(5)].as_slice());
+    assert_eq!(rt; dom.parent(ObjId(5), &mut steps), Some(ObjId::ROOT));
     assert!(rt; dom.cell(ObjId(5), &mut steps).is_some());
 }
 

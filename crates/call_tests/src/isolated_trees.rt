@@ -21,7 +21,7 @@ fn root(alloc: Global) -> Record
     ensures bounds { KeepsBounds result }
 {
     Record {
-        id: ObjId(1),
+        id: ObjId::ROOT,
         role: Role::Document,
         name: Text::new(alloc),
         description: Text::new(alloc),
@@ -76,11 +76,11 @@ fn a_copy_has_the_same_objects(rt: HostRuntime) -> Result<(), Fail> {
     needs_send(&copy);
     let (copy, notices) = unchanged(alloc, copy)?;
     assert!(rt;
-        copy.find(ObjId(1))
+        copy.find(ObjId::ROOT)
             .is_some_and(|r| r.role == Role::Document)
     );
     assert!(rt; copy.find(ObjId(2)).is_none() && copy.focus().is_none());
-    assert_eq!(rt; copy.root(), ObjId(1));
+    assert_eq!(rt; copy.root(), ObjId::ROOT);
     assert_eq!(rt; notices.as_slice().len(), 0);
     Ok(())
 }

@@ -17,7 +17,7 @@ fn a_text_is_said(rt: HostRuntime) -> Result<(), Fail> {
     let mut dom = Dom::new(alloc)?;
     let text = Edit::InsertText {
         id: ObjId(2),
-        into: ObjId(1),
+        into: ObjId::ROOT,
         before: None,
         chars: Text::from_str(alloc, " tea")?,
     };
@@ -33,9 +33,9 @@ fn say<L: Ledger>(rt: &impl Abort, alloc: Global, dom: &Dom, blank: Blank) -> Re
 {
     let (book, share) = blank.open::<L>();
     let mut steps = Steps::new(book, share);
-    let plain = said_plain(alloc, dom, ObjId(1), &mut steps)?;
-    let whole = said_whole(alloc, dom, ObjId(1), &mut steps)?;
-    let shown = said_shown(alloc, dom, ObjId(1), &mut steps)?;
+    let plain = said_plain(alloc, dom, ObjId::ROOT, &mut steps)?;
+    let whole = said_whole(alloc, dom, ObjId::ROOT, &mut steps)?;
+    let shown = said_shown(alloc, dom, ObjId::ROOT, &mut steps)?;
     assert!(rt; plain.is(" tea") && whole.is(" tea") && shown.is(" tea"));
     Ok(())
 }
@@ -45,7 +45,7 @@ fn a_label_names(rt: HostRuntime) -> Result<(), Fail> {
     let alloc = rt.alloc();
     let mut dom = Dom::new(alloc)?;
     let label = Edit::Set {
-        id: ObjId(1),
+        id: ObjId::ROOT,
         name: Text::from_str(alloc, "aria-label")?,
         value: Text::from_str(alloc, "Shop")?,
     };
@@ -61,8 +61,8 @@ fn ask<L: Ledger>(rt: &impl Abort, alloc: Global, dom: &Dom, blank: Blank) -> Re
 {
     let (book, share) = blank.open::<L>();
     let mut steps = Steps::new(book, share);
-    let name = name_of(alloc, dom, ObjId(1), &mut steps)?;
-    let description = description_of(alloc, dom, ObjId(1), &mut steps)?;
+    let name = name_of(alloc, dom, ObjId::ROOT, &mut steps)?;
+    let description = description_of(alloc, dom, ObjId::ROOT, &mut steps)?;
     assert!(rt; name.is("Shop") && description.is(""));
     Ok(())
 }

@@ -17,7 +17,7 @@ fn a_document_has_its_tree(rt: HostRuntime) -> Result<(), Fail> {
     let mut dom = Dom::new(alloc)?;
     let button = Edit::InsertElement {
         id: ObjId(2),
-        into: ObjId(1),
+        into: ObjId::ROOT,
         before: None,
         tag: Text::from_str(alloc, "button")?,
         attrs: Attrs::new(alloc),

@@ -125,7 +125,7 @@ impl IdIndex {
         ensures { IfOk result (λ index. IsIndexOf dom.now index) }
     {
         dom.keeps_tree();
-        let nodes = nodes_below(alloc, dom, ObjId(1), steps)?;
+        let nodes = nodes_below(alloc, dom, ObjId::ROOT, steps)?;
         let mut index = IdIndex::empty(alloc);
         index.change_nodes(alloc, Change::Comes, dom, nodes.as_slice(), steps)?;
         Ok(index)

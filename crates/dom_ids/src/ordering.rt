@@ -68,7 +68,7 @@ fn in_order<L: Ledger>(
     let wanted = set_of(alloc, nodes)?;
     let ways = ways_to(alloc, dom, nodes, steps)?;
     let mut ids = Ids::new(alloc);
-    gather(dom, &ways, &wanted, ObjId(1), &mut ids, steps)?;
+    gather(dom, &ways, &wanted, ObjId::ROOT, &mut ids, steps)?;
     Ok(ids)
 }
 

@@ -43,7 +43,7 @@ impl TreeView for Isolated {
 
     fn root(&self) -> ObjId {
         let _tree = &self.focus;
-        ObjId(1)
+        ObjId::ROOT
     }
 
     fn focus(&self) -> Option<ObjId> {

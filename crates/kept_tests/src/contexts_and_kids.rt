@@ -20,7 +20,7 @@ fn contexts_and_kids_are_made_and_renewed(rt: HostRuntime) -> Result<(), Fail> {
     let mut dom = Dom::new(alloc)?;
     let button = Edit::InsertElement {
         id: ObjId(2),
-        into: ObjId(1),
+        into: ObjId::ROOT,
         before: None,
         tag: Text::from_str(alloc, "button")?,
         attrs: Attrs::new(alloc),
@@ -39,13 +39,13 @@ fn keep<L: Ledger>(rt: &impl Abort, alloc: Global, dom: &Dom, blank: Blank) -> R
     dom.keeps_tree();
     let (book, share) = blank.open::<L>();
     let mut steps = Steps::new(book, share);
-    let all = from_above(alloc, dom, &[ObjId(1), ObjId(2)], &mut steps)?;
+    let all = from_above(alloc, dom, &[ObjId::ROOT, ObjId(2)], &mut steps)?;
     let none = from_above(alloc, dom, &[], &mut steps)?;
     let made = Contexts::new(alloc).renew(dom, all.as_slice(), &mut steps)?;
     let contexts = made.renew(dom, none.as_slice(), &mut steps)?;
     let first = Kids::new(alloc).renew(alloc, dom, &contexts, all.as_slice(), &mut steps)?;
     let kids = first.renew(alloc, dom, &contexts, none.as_slice(), &mut steps)?;
-    assert!(rt; !contexts.context(ObjId(1)).is_out());
-    assert!(rt; kids.kids(ObjId(1)).len() == 1);
+    assert!(rt; !contexts.context(ObjId::ROOT).is_out());
+    assert!(rt; kids.kids(ObjId::ROOT).len() == 1);
     Ok(())
 }

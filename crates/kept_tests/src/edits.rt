@@ -18,7 +18,7 @@ fn one_button(alloc: Global) -> Result<Dom, Fail> {
     let mut dom = Dom::new(alloc)?;
     let button = Edit::InsertElement {
         id: ObjId(2),
-        into: ObjId(1),
+        into: ObjId::ROOT,
         before: None,
         tag: Text::from_str(alloc, "button")?,
         attrs: Attrs::new(alloc),

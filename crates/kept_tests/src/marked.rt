@@ -64,7 +64,7 @@ fn button(alloc: Global) -> Result<Edit, NoMemory>
 {
     Ok(Edit::InsertElement {
         id: ObjId(2),
-        into: ObjId(1),
+        into: ObjId::ROOT,
         before: None,
         tag: Text::from_str(alloc, "button")?,
         attrs: Attrs::new(alloc),

@@ -26,7 +26,7 @@ fn names_are_made_and_renewed(rt: HostRuntime) -> Result<(), Fail> {
     )?;
     let button = Edit::InsertElement {
         id: ObjId(2),
-        into: ObjId(1),
+        into: ObjId::ROOT,
         before: None,
         tag: Text::from_str(alloc, "button")?,
         attrs,
@@ -45,7 +45,7 @@ fn name<L: Ledger>(rt: &impl Abort, alloc: Global, dom: &Dom, blank: Blank) -> R
     dom.keeps_tree();
     let (book, share) = blank.open::<L>();
     let mut steps = Steps::new(book, share);
-    let all = from_above(alloc, dom, &[ObjId(1), ObjId(2)], &mut steps)?;
+    let all = from_above(alloc, dom, &[ObjId::ROOT, ObjId(2)], &mut steps)?;
     let none = from_above(alloc, dom, &[], &mut steps)?;
     let ids = IdIndex::new(alloc, dom, &mut steps)?;
     let contexts = Contexts::new(alloc).renew(dom, all.as_slice(), &mut steps)?;

@@ -54,7 +54,7 @@ impl TreeView for KeptTree {
 
     fn root(&self) -> ObjId {
         let _tree = &self.focus;
-        ObjId(1)
+        ObjId::ROOT
     }
 
     fn focus(&self) -> Option<ObjId> {
@@ -95,7 +95,7 @@ impl TreeView for RenewedTree {
 
     fn root(&self) -> ObjId {
         let _tree = &self.focus;
-        ObjId(1)
+        ObjId::ROOT
     }
 
     fn focus(&self) -> Option<ObjId> {
@@ -111,7 +111,7 @@ impl RenewedTree {
         requires becomes { IsObjectTree (renewed_tree kept fresh ids focus) }
         ensures { result ≡ record { before = kept; after = renewed_tree kept fresh ids focus; places = ids } }
     {
-        let _root = kept.find(ObjId(1));
+        let _root = kept.find(ObjId::ROOT);
         RenewedTree {
             kept,
             ids,

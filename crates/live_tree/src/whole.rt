@@ -22,7 +22,7 @@ pub(crate) fn all_from_above<L: Ledger>(
 {
     dom.keeps_tree();
     let mut all = Ids::new(alloc);
-    push_below(dom, ObjId(1), &mut all, steps)?;
+    push_below(dom, ObjId::ROOT, &mut all, steps)?;
     let down = from_above(alloc, dom, all.as_slice(), steps)?;
     Ok(down)
 }

@@ -142,8 +142,7 @@ impl Dom {
         let base = u32::from(self.depth_of(into)) + 1;
         let top = u32::from(self.depth_of(id));
         let from = self.parent_of(id);
-        self.slots.take_out(&from, id);
-        self.slots.set_children(into, list);
+        self.slots.hang_anew(&from, id, into, list);
         self.slots.set_parent(id, into);
         self.slots.lift(whole.as_slice(), base, top);
         Ok(())

@@ -14,7 +14,7 @@ impl Dom {
         ensures { IfOk result (λ dom. dom ≡ self.now) }
     {
         let mut nodes = Ids::new(alloc);
-        self.push_subtree(ObjId(1), &mut nodes)?;
+        self.push_subtree(ObjId::ROOT, &mut nodes)?;
         let slots = self.slots.copy_of(alloc, nodes.as_slice())?;
         let used = self.used.copy(alloc)?;
         Ok(Dom {

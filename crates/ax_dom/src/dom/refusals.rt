@@ -8,7 +8,10 @@ ghost use Rattle.ax_dom.specs.Refusals.{is_taken, is_place, lacks_node, reuses_i
 use super::Dom;
 use crate::cause::EditCause;
 use crate::edit::Edit;
-use ax_base::{Attrs, Body, ObjId, Run, Text};
+use ax_base::{Attrs, Body, MAX_DEPTH, MAX_INSERTS, MAX_TEXT_CHARACTERS, ObjId, Run, Text};
+
+/// The most bytes of an attribute's value.
+const MAX_VALUE_BYTES: usize = 4096;
 
 impl Dom {
     /// Why an edit is refused: the first cause that holds, or `None` exactly where none does. It is never want of memory.
@@ -135,7 +138,7 @@ impl Dom {
         ensures { result ≡ is_one_too_many self.now e.now }
     {
         match e {
-            Edit::InsertElement { .. } | Edit::InsertText { .. } => self.used.len() >= 65536,
+            Edit::InsertElement { .. } | Edit::InsertText { .. } => self.used.len() >= MAX_INSERTS,
             _ => false,
         }
     }
@@ -174,7 +177,7 @@ impl Dom {
     fn is_taken(&self, id: ObjId) -> bool
         ensures { result ≡ is_taken self.now id }
     {
-        id.number() == 1 || self.used.has(id)
+        id == ObjId::ROOT || self.used.has(id)
     }
 
     /// Whether no child to stand before is given, or it is a child of the parent.
@@ -199,9 +202,9 @@ impl Dom {
 
     /// Whether a child of a node would have more than 64 ancestors.
     fn is_deepest(&self, id: ObjId) -> bool
-        ensures { result ≡ nat_lt 64 (depth self.now id + 1) }
+        ensures { result ≡ nat_lt MAX_DEPTH (depth self.now id + 1) }
     {
-        u32::from(self.depth_of(id)) + 1 > 64
+        u32::from(self.depth_of(id)) + 1 > MAX_DEPTH
     }
 
     /// How many ancestors a node has: none of an unknown id.
@@ -230,7 +233,7 @@ fn removes_root(e: &Edit) -> bool
     ensures { result ≡ removes_root e.now }
 {
     match e {
-        Edit::Remove(id) => id.number() == 1,
+        Edit::Remove(id) => *id == ObjId::ROOT,
         _ => false,
     }
 }
@@ -264,14 +267,14 @@ fn has_long_value(attrs: &Attrs) -> bool
     attrs
         .as_slice()
         .iter()
-        .any(|a| a.value.as_str().len() > 4096)
+        .any(|a| a.value.as_str().len() > MAX_VALUE_BYTES)
 }
 
 /// Whether an attribute value has more than 4,096 bytes.
 fn is_long_value(value: &Text) -> bool
     ensures { result ≡ is_long_value value.now }
 {
-    value.as_str().len() > 4096
+    value.as_str().len() > MAX_VALUE_BYTES
 }
 
 /// Whether a text has more than 65,536 characters.
@@ -285,10 +288,10 @@ fn is_long_text(chars: &Text) -> bool
 fn is_long(text: &str) -> bool
     ensures { result ≡ is_long_text text.now }
 {
-    if text.len() <= 65536 {
+    if text.len() <= MAX_TEXT_CHARACTERS {
         return false;
     }
-    text.chars().count() > 65536
+    text.chars().count() > MAX_TEXT_CHARACTERS
 }
 
 /// How many characters a text has.

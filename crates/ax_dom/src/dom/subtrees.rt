@@ -1,5 +1,5 @@
 //! A node and what is below it.
-ghost use Rattle.std.specs.Prelude.{◌≡◌, ◌+◌, ◌-◌, ◌++◌, ◌<◌, nat_eq, nat_lt, OnOk};
+ghost use Rattle.std.specs.Prelude.{◌≡◌, ◌+◌, ◌-◌, ◌++◌, ◌≤◌, nat_eq, nat_lt, OnOk};
 ghost use Rattle.std.specs.List.{list_any};
 ghost use Rattle.ax_base.specs.Document.{children, depth, lineage};
 ghost use Rattle.ax_base.specs.Trees.{IsTree};
@@ -7,7 +7,7 @@ ghost use Rattle.ax_dom.specs.Subtrees.{subtree};
 ghost use Rattle.ax_dom.specs.Refusals.{is_too_high};
 
 use super::Dom;
-use ax_base::{Ids, NoMemory, ObjId};
+use ax_base::{Ids, MAX_DEPTH, NoMemory, ObjId};
 
 impl Dom {
     /// The children of a node, in order.
@@ -45,10 +45,10 @@ impl Dom {
 
     /// Whether some node of a subtree is too deep, where `base` takes the place of the depth `top`.
     fn has_deeper(&self, id: ObjId, base: u32, top: u32) -> bool
-        requires { base < 1000 }
-        ensures { result ≡ list_any (λ m. nat_lt 64 (base + (depth self.now m - top))) (subtree self.now id) }
+        requires { base ≤ 256 }
+        ensures { result ≡ list_any (λ m. nat_lt MAX_DEPTH (base + (depth self.now m - top))) (subtree self.now id) }
     {
-        if base + u32::from(self.depth_of(id)).saturating_sub(top) > 64 {
+        if base + u32::from(self.depth_of(id)).saturating_sub(top) > MAX_DEPTH {
             return true;
         }
         for child in self.children_of(id) {

@@ -1,5 +1,3 @@
-use Rattle.std.proofs.Common.{◌∙◌}
-use Rattle.ax_base.proofs.Filled.{one_empty}
 use Rattle.ax_base.proofs.dense.grow.Goals as goal
 
 pub returns-in_err-push-clause-same : goal.returns-in_err-push-clause-same

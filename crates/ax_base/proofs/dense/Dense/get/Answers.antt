@@ -1,4 +1,4 @@
-use Rattle.std.proofs.Common.{◌∙◌, sym, arith}
+use Rattle.std.proofs.Common.{◌∙◌, arith}
 use Rattle.ax_base.proofs.Filled.{found-place, found-past}
 use Rattle.ax_base.proofs.dense.Dense.get.Goals as goal
 

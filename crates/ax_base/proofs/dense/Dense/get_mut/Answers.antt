@@ -1,4 +1,4 @@
-use Rattle.std.proofs.Common.{◌∙◌, refl, sym, arith}
+use Rattle.std.proofs.Common.{◌∙◌, refl}
 use Rattle.ax_base.proofs.Filled.{found-place, found-past, write-place, write-past, keep-place}
 use Rattle.ax_base.proofs.dense.Dense.get_mut.Goals as goal
 

@@ -1,4 +1,4 @@
-use Rattle.std.proofs.Common.{◌∙◌, sym, ap, map, Some, arith}
+use Rattle.std.proofs.Common.{◌∙◌, ap, map, Some, arith}
 use Rattle.ax_base.specs.declared.dense.Place.TheVariants.{Full}
 use Rattle.ax_base.specs.IdMaps.{value_of, filled_from}
 use Rattle.std.proofs.lemmas.Result.{err_from_is_err_and}

@@ -1,4 +1,3 @@
-use Rattle.std.proofs.Common.{arith}
 use Rattle.ax_base.proofs.Marked.{has-marked, past-marked}
 use Rattle.ax_base.proofs.id_set.Marks.has.Goals as goal
 

@@ -4,8 +4,8 @@ use Rattle.ax_base.specs.Document.{IsChild, depth}
 use Rattle.ax_dom.proofs.Walks.{child_of, descends, any_here, any_below, none_anywhere}
 use Rattle.ax_dom.proofs.dom.Dom.+has_deeper.Goals as goal
 
-pub returns-then-base-saturating_sub-gt64 : goal.returns-then-base-saturating_sub-gt64
-returns-then-base-saturating_sub-gt64 t c =
+pub returns-then-base-saturating_sub-gt-MAX_DEPTH : goal.returns-then-base-saturating_sub-gt-MAX_DEPTH
+returns-then-base-saturating_sub-gt-MAX_DEPTH t c =
     any_here c.args.self.now (λ m. nat_lt 64 (c.args.base + (depth c.args.self.now m - c.args.top))) c.args.id
     (lt-ltb 64 (c.args.base + (depth c.args.self.now c.args.id - c.args.top)) (omega arith))
 

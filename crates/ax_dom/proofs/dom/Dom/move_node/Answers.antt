@@ -17,7 +17,7 @@ invariant_of-self c =
     kept_moved c.self.inside.slots c.self.inside.focus c.self.inside.used c.self.invariant c.args.self.now c.self.view_is c.args.id c.args.into c.args.before.now c.requires
     c.in_ok-list.list (c.in_ok-list.ensures ∙ ap (λ xs. placed c.args.before.now c.args.id (without c.args.id xs)) c.children_of.ensures.value)
     _ _ (ap (λ n. n + 1) (c.from-base.ensures ∙ c.depth_of.ensures)) (c.from-top.ensures ∙ c.depth_of-2.ensures) _ c.parent_of-from.ensures.value _ whole
-    _ _ _ _ c.take_out.ensures c.set_children.ensures c.set_parent.ensures c.lift.ensures
+    _ _ _ c.hang_anew.ensures c.set_parent.ensures c.lift.ensures
 
 pub returns-clause-ok : goal.returns-clause-ok
 returns-clause-ok c =
@@ -25,4 +25,4 @@ returns-clause-ok c =
     document_moved c.self.inside.slots c.self.inside.focus c.self.inside.used c.self.invariant c.args.self.now c.self.view_is c.args.id c.args.into c.args.before.now c.requires
     c.in_ok-list.list (c.in_ok-list.ensures ∙ ap (λ xs. placed c.args.before.now c.args.id (without c.args.id xs)) c.children_of.ensures.value)
     _ _ (ap (λ n. n + 1) (c.from-base.ensures ∙ c.depth_of.ensures)) (c.from-top.ensures ∙ c.depth_of-2.ensures) _ c.parent_of-from.ensures.value _ whole
-    _ _ _ _ c.take_out.ensures c.set_children.ensures c.set_parent.ensures c.lift.ensures
+    _ _ _ c.hang_anew.ensures c.set_parent.ensures c.lift.ensures
