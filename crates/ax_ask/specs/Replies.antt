@@ -4,7 +4,8 @@ use Rattle.std.specs.Fmt.{decimal}
 use Rattle.ax_base.specs.Characters.{Chars}
 use Rattle.ax_base.specs.Quoting.{quoted}
 use Rattle.ax_base.specs.RoleWords.{role_word}
-use Rattle.ax_ask.specs.Words.{live_word, placing_word}
+use Rattle.ax_base.specs.SettingWords.{live_word}
+use Rattle.ax_ask.specs.Words.{placing_word}
 use Rattle.ax_ask.specs.Numbers.{all_spaced, marker_text, rect_text}
 use Rattle.ax_ask.specs.StateWords.{state_words}
 use Rattle.ax_ask.specs.declared.replies.Reply.{Reply}

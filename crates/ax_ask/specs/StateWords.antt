@@ -3,7 +3,8 @@ use Rattle.std.specs.Prelude.{Bool, true, false, Option, Some, None, [], ◌++�
 use Rattle.ax_base.specs.Characters.{Chars}
 use Rattle.ax_base.specs.declared.states.Checked.{Checked}
 use Rattle.ax_base.specs.declared.states.States.{States}
-use Rattle.ax_ask.specs.Words.{truth_word, checked_word}
+use Rattle.ax_base.specs.SettingWords.{checked_word}
+use Rattle.ax_ask.specs.Words.{truth_word}
 
 -- a word where the state holds
 abbrev pub where_holds : Bool → Chars → Chars

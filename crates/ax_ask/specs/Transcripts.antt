@@ -4,7 +4,7 @@ use Rattle.std.specs.List.{flat_map}
 use Rattle.std.specs.Fmt.{decimal}
 use Rattle.ax_base.specs.Characters.{Chars}
 use Rattle.ax_base.specs.declared.notices.Notice.{Notice}
-use Rattle.ax_ask.specs.Words.{kind_word}
+use Rattle.ax_base.specs.SettingWords.{kind_word}
 use Rattle.ax_ask.specs.Replies.{reply_text}
 use Rattle.ax_ask.specs.declared.transcripts.EntryBody.{EntryBody}
 use Rattle.ax_ask.specs.declared.transcripts.EntryBody.TheVariants.{Reply, Await, Hear, Notices}

@@ -10,7 +10,7 @@ ghost use Rattle.ax_ask.specs.Transcripts.{notice_line, notices_text, body_text,
 
 use crate::numbers::{push_ids, push_marker, push_number, push_rect};
 use crate::states::push_states;
-use crate::words::{kind_word, live_word, placing_word};
+use crate::words::placing_word;
 use crate::{Entry, EntryBody, Marker, Reply, Transcript};
 use ax_base::{Ids, Moment, NoMemory, Notice, ObjId, States, Text, push_quoted, role_word};
 use std::alloc::Global;
@@ -52,7 +52,7 @@ fn push_reply(out: &mut String, reply: &Reply) -> Result<(), NoMemory>
         Reply::Value(text) => push_text(out, "value ", text),
         Reply::States(states) => push_all_states(out, states),
         Reply::Level(level) => push_number(out, "level ", u32::from(*level)),
-        Reply::Live(live) => push_word(out, "live ", live_word(*live)),
+        Reply::Live(live) => push_word(out, "live ", live.as_str()),
         Reply::Frame(rect) => push_rect(out, "frame ", *rect),
         Reply::Parent(id) => push_id(out, "parent ", *id),
         Reply::Children(count, ids) => push_children(out, *count, ids),
@@ -170,7 +170,7 @@ fn push_notice(out: &mut String, notice: &Notice) -> Result<(), NoMemory>
     ensures { OnOk result (string_bytes out.new ≡ string_bytes out.old ++ notice_line notice.now) }
 {
     let moment = notice.moment.number();
-    let word = kind_word(notice.kind);
+    let word = notice.kind.as_str();
     let id = notice.id.map_or(0, ObjId::number);
     write!(out, "! {moment} {word} ")?;
     write!(out, "{id}\n")?;

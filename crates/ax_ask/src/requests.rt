@@ -1,9 +1,6 @@
 //! What an accessibility client asks of the tree.
-ghost use Rattle.std.specs.Prelude.{◌≡◌, [], ◌++◌, ◌∷◌, OnOk, OnErr};
 
-use ax_base::{NoMemory, ObjId, Text};
-use std::alloc::Global;
-use std::marker::Model;
+use ax_base::{ObjId, Sequence, Text};
 
 /// A text marker: a place before a character of a text object, or after its last one.
 /// `offset` counts characters, which are Unicode scalar values, from 0.
@@ -42,60 +39,7 @@ pub enum SearchKey {
 }
 
 /// The kinds that a search looks for, any one of which is enough. A clause sees them as a list.
-#[derive(Drop)]
-pub struct SearchKeys {
-    items: Vec<SearchKey>,
-}
-
-impl Model for SearchKeys {
-    ghost use Rattle.std.specs.Prelude.{List};
-    ghost use Rattle.ax_ask.specs.declared.requests.SearchKey.{SearchKey};
-
-    ghost Value = { List SearchKey };
-
-    ghost view = { λ a. a.items.items };
-}
-
-impl SearchKeys {
-    /// No keys. It takes no memory.
-    pub fn new(alloc: Global) -> SearchKeys
-        ensures { result ≡ [] }
-    {
-        SearchKeys {
-            items: Vec::new(alloc),
-        }
-    }
-
-    /// These keys. It takes no memory.
-    pub fn from_vec(items: Vec<SearchKey>) -> SearchKeys
-        ensures { result ≡ items.items }
-    {
-        SearchKeys { items }
-    }
-
-    /// The keys in their order.
-    pub fn as_slice(&self) -> &[SearchKey]
-        ensures { result.now ≡ self.now }
-    {
-        self.items.as_slice()
-    }
-
-    /// The keys as a `Vec`. It takes no memory.
-    pub fn into_vec(self) -> Vec<SearchKey>
-        ensures { result.items ≡ self }
-    {
-        self.items
-    }
-
-    /// Adds a key at the end. At an error nothing changes.
-    pub fn push(&mut self, key: SearchKey) -> Result<(), NoMemory>
-        ensures ok { OnOk result (self.new ≡ self.old ++ key ∷ []) }
-        ensures err { OnErr result (self.new ≡ self.old) }
-    {
-        self.items.push(key)?;
-        Ok(())
-    }
-}
+pub type SearchKeys = Sequence<SearchKey>;
 
 /// A search: over the objects after `origin` in preorder or, backward, over those before it in reverse; without an origin
 /// over all. It keeps those that match a key and, where `words` is given, whose name contains it after case folding.

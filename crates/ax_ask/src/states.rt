@@ -2,7 +2,7 @@
 ghost use Rattle.std.specs.Prelude.{◌≡◌, ◌++◌, OnOk, string_bytes, codes};
 ghost use Rattle.ax_ask.specs.StateWords.{where_holds, where_told, where_checked, state_words};
 
-use crate::words::{checked_word, truth_word};
+use crate::words::truth_word;
 use ax_base::{Checked, NoMemory, States};
 use std::fmt::Write;
 
@@ -57,7 +57,7 @@ fn push_where_checked(out: &mut String, name: &str, told: Option<Checked>) -> Re
     ensures { OnOk result (string_bytes out.new ≡ string_bytes out.old ++ where_checked name.now told) }
 {
     match told {
-        Some(checked) => push_setting(out, name, checked_word(checked)),
+        Some(checked) => push_setting(out, name, checked.as_str()),
         None => Ok(()),
     }
 }

@@ -1,4 +1,5 @@
 pub mod RoleWords
+pub mod SettingWords
 pub mod Characters
 pub mod Quoting
 pub mod Attributes

@@ -8,7 +8,7 @@ use std::alloc::Global;
 use std::marker::Model;
 
 /// An attribute: its name and its value.
-#[derive(Drop)]
+#[derive(Debug, Drop)]
 pub struct Attr {
     pub name: Text,
     pub value: Text,
@@ -27,7 +27,7 @@ impl Attr {
 }
 
 /// The attributes of an element, with distinct names. A clause sees them as a list.
-#[derive(Drop)]
+#[derive(Debug, Drop)]
 pub struct Attrs {
     items: Vec<Attr>,
 }

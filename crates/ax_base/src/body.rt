@@ -2,7 +2,7 @@
 use crate::{Attrs, Rect, Runs, Text};
 
 /// An element with its tag, attributes and frame, or a text with its characters and runs.
-#[derive(Drop)]
+#[derive(Debug, Drop)]
 pub enum Body {
     Element {
         tag: Text,

@@ -1,7 +1,9 @@
 //! The roles of objects.
-ghost use Rattle.std.specs.Prelude.{◌≡◌, Contains};
+ghost use Rattle.std.specs.Prelude.{◌≡◌, Contains, Some};
 ghost use Rattle.ax_base.specs.declared.role.Role.{Role};
 ghost use Rattle.ax_base.specs.RoleWords.{role_word};
+
+use std::fmt;
 
 /// What an object is: the roles of WAI-ARIA 1.2 that are known here, each named by its word, and `Text` for a text.
 /// The role none is `NoRole`, and option is `OptionItem`.
@@ -177,6 +179,14 @@ impl Role {
         Role::Treeitem,
         Role::Text,
     ];
+}
+
+impl fmt::Display for Role {
+    ghost output = { λ role. Some (role_word role) };
+
+    fn fmt<W: fmt::Write>(&self, f: &mut fmt::Formatter<W>) -> fmt::Result {
+        f.write_str(role_word(*self))
+    }
 }
 
 /// Every role is in the list of all roles.

@@ -1,13 +1,14 @@
 //! A list of values of one type.
 ghost use Rattle.std.specs.Prelude.{◌≡◌, ◌≤◌, length, IfOk, [], ◌++◌, ◌∷◌, OnOk, OnErr};
 ghost use Rattle.std.specs.List.{insert};
+ghost use Rattle.std.specs.Cmp.Lexicographic.{pointwise, lists_per, lists_equiv};
 
 use crate::NoMemory;
 use std::alloc::Global;
 use std::marker::Model;
 
 /// Some values, in order. A clause sees them as a list. It is made from a `Vec`, and gives it back, without taking memory.
-#[derive(Drop)]
+#[derive(Debug, Drop)]
 pub struct Sequence<T> {
     pub(crate) items: Vec<T>,
 }
@@ -89,4 +90,18 @@ impl<T: Copy> Sequence<T> {
         self.items.extend_from_slice(more.as_slice())?;
         Ok(())
     }
+}
+
+impl<T: PartialEq> PartialEq for Sequence<T> {
+    ghost eq = { pointwise T.eq };
+
+    ghost laws = { lists_per T.laws };
+
+    fn eq(&self, other: &Sequence<T>) -> bool {
+        self.items == other.items
+    }
+}
+
+impl<T: Eq> Eq for Sequence<T> {
+    ghost laws = { lists_equiv T.Eq.laws };
 }

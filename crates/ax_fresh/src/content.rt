@@ -88,27 +88,13 @@ pub fn record_called(
     })
 }
 
-/// No state at all.
-const NO_STATES: States = States {
-    focusable: false,
-    disabled: false,
-    checked: None,
-    expanded: None,
-    selected: None,
-    pressed: None,
-    required: false,
-    readonly: false,
-    invalid: false,
-    busy: false,
-};
-
 /// The states of a node of a role; a text has none.
 fn states_of(role: Role, node: &Body) -> States
     ensures { result ≡ states_by role node.now }
 {
     match node {
         Body::Element { tag, attrs, .. } => ax_states::states_of(role, tag.as_str(), attrs),
-        Body::Words { .. } => NO_STATES,
+        Body::Words { .. } => States::NONE,
     }
 }
 

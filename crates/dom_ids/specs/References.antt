@@ -6,6 +6,7 @@ use Rattle.ax_base.specs.declared.body.Body.TheVariants.{Element, Words}
 use Rattle.ax_base.specs.Attributes.{value_of}
 use Rattle.ax_base.specs.Characters.{Chars, tokens}
 use Rattle.ax_base.specs.Document.{attr, text_of}
+use Rattle.ax_base.specs.declared.limits.TheConstants.{MAX_REFERENCES}
 
 -- what there is, as a list
 abbrev pub listed : {A : Type 0} → Option A → List A
@@ -18,7 +19,7 @@ is_text_in xs x = list_any (bytes_eq x) xs
 
 -- the first eight tokens of an attribute
 abbrev pub first_eight : Chars → Body → List Chars
-first_eight name b = take 8 (tokens (text_of name b))
+first_eight name b = take MAX_REFERENCES (tokens (text_of name b))
 
 -- whether the first eight tokens of `aria-labelledby` or of `aria-describedby` have the text (WAI-ARIA 1.2, section 6.6)
 abbrev pub names_text : Chars → Body → Bool

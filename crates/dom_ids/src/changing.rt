@@ -10,13 +10,10 @@ ghost use Rattle.dom_ids.specs.References.{is_text_in};
 use crate::change::Change;
 use crate::index::IdIndex;
 use crate::references::{labelled_id, own_id, text_of};
-use ax_base::{Body, NoMemory, ObjId, Steps, first_token};
+use ax_base::{Body, MAX_REFERENCES, NoMemory, ObjId, Steps, first_token};
 use ax_dom::Dom;
 use std::alloc::Global;
 use std::sync::ledger::Ledger;
-
-/// How many tokens of an attribute refer to something.
-const MOST: u8 = 8;
 
 impl IdIndex {
     /// Some nodes of a document come or go, one after another.
@@ -129,10 +126,10 @@ impl IdIndex {
     ) -> Result<(), NoMemory>
         requires rising { AreRising self.old }
         ensures rising { OnOk result (AreRising self.new) }
-        ensures value { OnOk result ((x : Chars) → entry_at self.new x ≡ (if is_text_in (take 8 (tokens text.now)) x then named_by change id (entry_at self.old x) else entry_at self.old x)) }
+        ensures value { OnOk result ((x : Chars) → entry_at self.new x ≡ (if is_text_in (take MAX_REFERENCES (tokens text.now)) x then named_by change id (entry_at self.old x) else entry_at self.old x)) }
     {
         let mut rest = text;
-        for _ in 0..MOST {
+        for _ in 0..MAX_REFERENCES {
             let Some((token, after)) = first_token(rest) else {
                 return Ok(());
             };

@@ -23,6 +23,7 @@ use Rattle.dom_ids.specs.Index.{IsIndexOf}
 use Rattle.said_pass.specs.declared.names.NodeName.{NodeName}
 use Rattle.said_pass.specs.declared.saids.Saids.{Saids}
 use Rattle.said_pass.specs.declared.texts.NodeText.{NodeText}
+use Rattle.ax_base.specs.declared.limits.TheConstants.{MAX_REFERENCES}
 
 -- Where no reference is followed:
 
@@ -74,7 +75,7 @@ said_by_token d token = option_map_or (said_by_target d) (target d token) []
 
 -- what the first eight tokens of a text refer to say, each behind a space, before it is made flat
 abbrev pub said_by_tokens : Document → Chars → Chars
-said_by_tokens d text = all_apart (map (said_by_token d) (take 8 (tokens text)))
+said_by_tokens d text = all_apart (map (said_by_token d) (take MAX_REFERENCES (tokens text)))
 
 -- what names are looked up in is that of a document: the index of its ids, its contexts, and what its nodes say where no reference is followed
 pub record AreSourcesOf (d : Document) (index : IdIndex) (contexts : List (ℕ × Standing)) (texts : List (ℕ × NodeText)) : Type 0 where

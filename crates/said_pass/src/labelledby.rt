@@ -6,12 +6,9 @@ ghost use Rattle.ax_names.specs.Sessions.{referred_by};
 ghost use Rattle.said_pass.specs.Saids.{said_by_token, said_by_tokens};
 
 use crate::sources::Sources;
-use ax_base::{NoMemory, first_token};
+use ax_base::{MAX_REFERENCES, NoMemory, first_token};
 use ax_names::{Piece, pieces_tell};
 use std::alloc::Global;
-
-/// How many tokens of an attribute refer to something.
-const MOST: u8 = 8;
 
 /// What is kept of what the first eight tokens of a text refer to, joined by single spaces.
 pub(crate) fn referred_by(
@@ -33,7 +30,7 @@ fn all_referred(alloc: Global, sources: &Sources<'_>, text: &str) -> Result<Piec
 {
     let mut joined = Piece::empty(alloc);
     let mut rest = text;
-    for _ in 0..MOST {
+    for _ in 0..MAX_REFERENCES {
         let Some((token, after)) = first_token(rest) else {
             return Ok(joined);
         };

@@ -7,6 +7,7 @@ use Rattle.text_marker.specs.Markers.{is_stale, is_out}
 use Rattle.text_marker.specs.Ranges.{range_words}
 use Rattle.text_marker.specs.declared.errors.MarkError.{MarkError}
 use Rattle.text_marker.specs.declared.errors.MarkError.TheVariants.{Stale, Out, Long, NoMemory}
+use Rattle.text_marker.specs.declared.contents.TheConstants.{MAX_RANGE_CHARACTERS}
 
 -- why a marker has no answer: stale comes first, then out
 abbrev pub refusal : Tree → Marker → Option MarkError
@@ -31,7 +32,7 @@ answered_both t a b answer = unless (refusal_of_both t a b) answer
 
 -- more than 4,096 characters are long
 abbrev pub unless_long : List ℕ → Result Chars MarkError
-unless_long cs = if nat_lt 4096 (length cs) then Err Long else Ok (encode_utf8_all cs)
+unless_long cs = if nat_lt MAX_RANGE_CHARACTERS (length cs) then Err Long else Ok (encode_utf8_all cs)
 
 -- the text of a range
 abbrev pub range_text : Tree → Marker → Marker → Result Chars MarkError

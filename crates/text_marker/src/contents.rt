@@ -15,8 +15,8 @@ use ax_record::TreeView;
 use std::alloc::Global;
 use text_order::next_text;
 
-/// How many characters the text of a range may have.
-const LONGEST: u32 = 4096;
+/// The most characters of the text of a range.
+const MAX_RANGE_CHARACTERS: u32 = 4096;
 
 /// The text of a range, whichever of its markers comes first: the characters from the lesser marker to the greater one, of all
 /// texts in order, with one line feed between two texts unless the second goes on with the line of the first. It reads no text
@@ -33,7 +33,7 @@ pub fn range_text<T: TreeView>(
 {
     let range = range_of(t, a, b)?;
     let mut out = String::new(alloc);
-    match push_range(t, &range, &mut out, LONGEST) {
+    match push_range(t, &range, &mut out, MAX_RANGE_CHARACTERS) {
         Ok(_) => Ok(Text::from_string(out)),
         Err(e) => Err(e),
     }
