@@ -15,6 +15,7 @@ pub mod TakingOut
 pub mod Rising
 pub mod Shapes
 pub mod Joins
+pub mod Splicing
 pub mod Reached
 pub mod KidsLaws
 pub mod Objects

@@ -23,3 +23,4 @@ pub mod AccessibleNames
 pub mod IdMaps
 pub mod IdLends
 pub mod IdSets
+pub mod Splices

@@ -10,6 +10,7 @@ mod id_set;
 mod ids;
 mod limits;
 mod lists;
+mod matching;
 mod memory;
 mod notices;
 mod pieces;
@@ -34,6 +35,7 @@ pub use limits::{
     MAX_DEPTH, MAX_INSERTS, MAX_NAME_CHARACTERS, MAX_REFERENCES, MAX_TEXT_CHARACTERS,
 };
 pub use lists::{Ids, Runs};
+pub use matching::differing;
 pub use memory::NoMemory;
 pub use notices::{Notice, NoticeKind, Notices};
 pub use pieces::first_token;

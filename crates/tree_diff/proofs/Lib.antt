@@ -5,5 +5,4 @@ pub mod Gone
 pub mod Covering
 pub mod Among
 pub mod Sorting
-pub mod Splicing
 pub mod Moving

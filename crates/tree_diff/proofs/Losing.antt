@@ -12,8 +12,8 @@ use Rattle.ax_base.proofs.Objects.{kids_known}
 use Rattle.ax_record.specs.declared.record.Record.{Record}
 use Rattle.ax_record.specs.Tree.{Tree, record_at, kids_of}
 use Rattle.tree_diff.specs.Lost.{still, lost_from, lost, lost_within, given_within}
-use Rattle.tree_diff.specs.Splices.{AreSharedBut}
-use Rattle.tree_diff.proofs.Splicing.{in_three}
+use Rattle.ax_base.specs.Splices.{AreSharedBut}
+use Rattle.ax_base.proofs.Splicing.{in_front, in_three}
 
 -- the kids of a node that is there are there
 pub kids_there : (d : Document) (t : IsTree d) (n : ℕ) (ks : List ℕ) → true ≡ has d n → (has d n ≡ true → ks ≡ kids d n) → (k : ℕ) → Contains ks k → has d k ≡ true
@@ -88,7 +88,7 @@ module _ (before : Tree) (now : Document) where
       middle : give part ≡ give was
       middle =
           sym (append-nil (give part))
-          ∙ (λ i. sym (all_there 127 first (λ k inside. there k (shared.before k inside))) i ++ (give part ++ sym (all_there 127 last (λ k inside. there k (shared.after k inside))) i))
+          ∙ (λ i. sym (all_there 127 first (λ k inside. there k (in_front start end was others shared k inside))) i ++ (give part ++ sym (all_there 127 last (λ k inside. there k (shared.after k inside))) i))
           ∙ (λ i. give first ++ sym (flat_map-append (given_within before now 127) part last) i)
           ∙ sym (flat_map-append (given_within before now 127) first (part ++ last))
           ∙ ap give (in_three was start end shared.order)

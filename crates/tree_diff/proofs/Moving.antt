@@ -9,8 +9,8 @@ use Rattle.ax_dom.specs.Among.{is_in}
 use Rattle.ax_record.specs.Tree.{Tree, kids_of, IsKid}
 use Rattle.ax_record.specs.ObjectTrees.{IsObjectTree}
 use Rattle.tree_diff.specs.Candidates.{is_moved}
-use Rattle.tree_diff.specs.Splices.{AreSharedBut}
-use Rattle.tree_diff.proofs.Splicing.{in_three}
+use Rattle.ax_base.specs.Splices.{AreSharedBut}
+use Rattle.ax_base.proofs.Splicing.{in_front, in_three}
 
 module _ (before : Tree) (t : IsObjectTree before) (ns : List ℕ) (above : ℕ) where
   abbrev test : ℕ → Bool
@@ -46,7 +46,7 @@ module _ (before : Tree) (t : IsObjectTree before) (ns : List ℕ) (above : ℕ)
       kid k inside = subst (λ l. Contains l k) same inside
 
       front : filter (is_moved before ns above) (take start hung) ≡ []
-      front = none_moved (take start hung) (λ k inside. kid k (shared.before k inside))
+      front = none_moved (take start hung) (λ k inside. kid k (in_front start end hung was shared k inside))
 
       back : filter (is_moved before ns above) (drop end hung) ≡ []
       back = none_moved (drop end hung) (λ k inside. kid k (shared.after k inside))

@@ -1,4 +1,3 @@
 pub mod Alike
 pub mod Lost
 pub mod Candidates
-pub mod Splices

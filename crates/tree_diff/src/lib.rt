@@ -4,7 +4,6 @@
 mod batches;
 mod moved;
 mod places;
-mod splices;
 
 pub use batches::batch_among;
 pub use moved::moved_kids;

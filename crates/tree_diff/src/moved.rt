@@ -5,8 +5,7 @@ ghost use Rattle.ax_record.specs.ObjectTrees.{IsObjectTree};
 ghost use Rattle.ax_record.specs.Tree.{kids_of};
 ghost use Rattle.tree_diff.specs.Candidates.{hung_on, is_moved};
 
-use crate::splices::differing;
-use ax_base::{Ids, NoMemory, ObjId};
+use ax_base::{Ids, NoMemory, ObjId, differing};
 use ax_dom::is_among;
 use ax_record::TreeView;
 use std::alloc::Global;

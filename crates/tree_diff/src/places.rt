@@ -12,8 +12,7 @@ ghost use Rattle.tree_diff.specs.Candidates.{candidates, moved_kids, IsSortedFro
 ghost use Rattle.tree_diff.specs.Lost.{lost, lost_within, given_within};
 
 use crate::moved::kids_before;
-use crate::splices::differing;
-use ax_base::{Ids, NoMemory, ObjId};
+use ax_base::{Ids, NoMemory, ObjId, differing};
 use ax_dom::Dom;
 use ax_record::TreeView;
 use kids_pass::Kids;

@@ -1,13 +1,11 @@
 -- A list in three parts, of which the outer two stand in another list too.
 use Rattle.std.proofs.Common.{◌≡◌, inl, inr, ℕ, ◌+◌, ◌-◌, ◌≤◌, ◌<◌, List, ◌++◌, length, take, drop, get_or, Bool, true, false, not, eqb, Contains, refl, sym, ap, subst, ◌∙◌, arith}
-use Rattle.std.specs.Prelude.{nat_eq}
-use Rattle.std.specs.Cmp.Lexicographic.{pointwise, same_text}
 use Rattle.std.proofs.lemmas.Bool.{false≢true, eqb-true}
 use Rattle.std.proofs.lemmas.List.{take-append-drop, drop-drop, drop_more}
 use Rattle.std.proofs.lemmas.List.Elements.{Contains-append_left, Contains-append_right, Contains-append_cases, Contains-get_or}
 use Rattle.std.proofs.Math.Seq.{take-add}
 use Rattle.ax_base.proofs.Joins.{Contains-cases}
-use Rattle.tree_diff.specs.Splices.{AreSharedBut}
+use Rattle.ax_base.specs.Splices.{AreSharedBut}
 
 pub in_three : (xs : List ℕ) (start end : ℕ) → start ≤ end → take start xs ++ (take (end - start) (drop start xs) ++ drop end xs) ≡ xs
 in_three xs start end order = (λ i. take start xs ++ (take (end - start) (drop start xs) ++ rest i)) ∙ ap (λ l. take start xs ++ l) (take-append-drop (end - start) (drop start xs)) ∙ take-append-drop start xs
@@ -21,25 +19,9 @@ in_three xs start end order = (λ i. take start xs ++ (take (end - start) (drop 
 from_start : (k : ℕ) (xs : List ℕ) (n : ℕ) → Contains (take k xs) n → Contains xs n
 from_start k xs n inside = subst (λ l. Contains l n) (take-append-drop k xs) (Contains-append_left (take k xs) (drop k xs) n inside)
 
-pub shared_but : (start end : ℕ) (ids others : List ℕ) → take start ids ≡ take start others → start ≤ end → end ≤ length ids → ((n : ℕ) → Contains (drop end ids) n → Contains others n) → AreSharedBut start end ids others
-shared_but start end ids others same order within after = record {
-  order = order;
-  within = within;
-  before = λ n inside. from_start start others n (subst (λ l. Contains l n) same inside);
-  after = after;
-}
-
--- all elements of a list are in one that is the same
-pub all_shared : (ids others : List ℕ) (all : ℕ) → all ≡ length ids → pointwise nat_eq ids others ≡ true → AreSharedBut all all ids others
-all_shared ids others all is found = record {
-  order = omega arith;
-  within = omega arith;
-  before = λ n inside. subst (λ l. Contains l n) same (from_start all ids n inside);
-  after = λ n inside. subst (λ l. Contains l n) same (subst (λ l. Contains l n) (take-append-drop all ids) (Contains-append_right (take all ids) (drop all ids) n inside));
-}
-  where
-    same : ids ≡ others
-    same = same_text ids others (sym found)
+-- what stands before the first difference is in the other list
+pub in_front : (start end : ℕ) (ids others : List ℕ) → AreSharedBut start end ids others → (n : ℕ) → Contains (take start ids) n → Contains others n
+in_front start end ids others shared n inside = from_start start others n (subst (λ l. Contains l n) shared.front inside)
 
 not_apart : (x y : ℕ) → false ≡ not (eqb x y) → x ≡ y
 not_apart x y found = go (eqb x y) refl found
@@ -58,18 +40,18 @@ one_earlier ids others at k behind j x y low here next far is other found shared
     ]
 
 -- one block more that is the same, from the start on
-pub block_more : (ids others : List ℕ) (at next size k j : ℕ) → next ≡ at + size → k ≡ size → j ≡ size → take at ids ≡ take at others → true ≡ pointwise nat_eq (take k (drop at ids)) (take j (drop at others)) → take next ids ≡ take next others
+pub block_more : (ids others : List ℕ) (at next size k j : ℕ) → next ≡ at + size → k ≡ size → j ≡ size → take at ids ≡ take at others → take k (drop at ids) ≡ take j (drop at others) → take next ids ≡ take next others
 block_more ids others at next size k j here one other before found =
     ap (λ n. take n ids) here ∙ take-add at size ids ∙ (λ i. before i ++ same i) ∙ sym (take-add at size others) ∙ ap (λ n. take n others) (sym here)
   where
     same : take size (drop at ids) ≡ take size (drop at others)
-    same = ap (λ n. take n (drop at ids)) (sym one) ∙ same_text (take k (drop at ids)) (take j (drop at others)) found ∙ ap (λ n. take n (drop at others)) other
+    same = ap (λ n. take n (drop at ids)) (sym one) ∙ found ∙ ap (λ n. take n (drop at others)) other
 
 in_part : (size at : ℕ) (xs : List ℕ) (n : ℕ) → Contains (take size (drop at xs)) n → Contains xs n
 in_part size at xs n inside = subst (λ l. Contains l n) (take-append-drop at xs) (Contains-append_right (take at xs) (drop at xs) n (from_start size (drop at xs) n inside))
 
 -- one block more from behind, which is in the other list
-pub block_earlier : (ids others : List ℕ) (at behind size i j a b : ℕ) → behind ≡ at + size → a ≡ size → i ≡ at → true ≡ pointwise nat_eq (take a (drop i ids)) (take b (drop j others))
+pub block_earlier : (ids others : List ℕ) (at behind size i j a b : ℕ) → behind ≡ at + size → a ≡ size → i ≡ at → take a (drop i ids) ≡ take b (drop j others)
     → ((n : ℕ) → Contains (drop behind ids) n → Contains others n) → (n : ℕ) → Contains (drop at ids) n → Contains others n
 block_earlier ids others at behind size i j a b here size_is place found shared n inside = elim (Contains-append_cases (take size (drop at ids)) (drop behind ids) n (subst (λ l. Contains l n) parts inside)) [
   | inl first ↦ in_part b j others n (subst (λ l. Contains l n) same first)
@@ -80,4 +62,4 @@ block_earlier ids others at behind size i j a b here size_is place found shared 
     parts = sym (take-append-drop size (drop at ids)) ∙ ap (λ l. take size (drop at ids) ++ l) (drop-drop size at ids ∙ ap (λ m. drop m ids) (sym here))
 
     same : take size (drop at ids) ≡ take b (drop j others)
-    same = (λ k. take (sym size_is k) (drop (sym place k) ids)) ∙ same_text (take a (drop i ids)) (take b (drop j others)) found
+    same = (λ k. take (sym size_is k) (drop (sym place k) ids)) ∙ found

@@ -1,5 +1,5 @@
 use Rattle.std.proofs.Common.{◌≤◌, ◌-◌, ℕ, length, drop, Contains}
-use Rattle.tree_diff.proofs.splices.same_blocks_behind.Given as goal
+use Rattle.ax_base.proofs.matching.same_blocks_behind.Given as goal
 
 -- what was compared so far is in the other list
 abbrev pub invariant-equal : goal.invariant-equal

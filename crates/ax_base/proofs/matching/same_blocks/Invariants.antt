@@ -1,5 +1,5 @@
 use Rattle.std.proofs.Common.{◌≡◌, ◌≤◌, ◌-◌, length, take}
-use Rattle.tree_diff.proofs.splices.same_blocks.Given as goal
+use Rattle.ax_base.proofs.matching.same_blocks.Given as goal
 
 -- so far the two are the same
 abbrev pub invariant-equal : goal.invariant-equal

@@ -1,5 +1,5 @@
 use Rattle.std.proofs.Common.{◌≡◌, take}
-use Rattle.tree_diff.proofs.splices.same_start.Given as goal
+use Rattle.ax_base.proofs.matching.same_start.Given as goal
 
 abbrev pub invariant-loop-at : goal.invariant-loop-at
 invariant-loop-at l = take l.at l.ids ≡ take l.at l.others

@@ -1,6 +1,6 @@
 use Rattle.std.proofs.Common.{◌+◌, refl, arith}
-use Rattle.tree_diff.proofs.Splicing.{block_more}
-use Rattle.tree_diff.proofs.splices.same_blocks.Goals as goal
+use Rattle.ax_base.proofs.Splicing.{block_more}
+use Rattle.ax_base.proofs.matching.same_blocks.Goals as goal
 
 pub equal-preserved : goal.equal-preserved
 equal-preserved c =
@@ -10,5 +10,5 @@ equal-preserved c =
       low = omega arith;
       here = c.equal.invariant.here;
       other = c.equal.invariant.other;
-      same = block_more c.args.ids.now c.args.others.now c.equal.at (c.equal.at + 64) 64 _ _ refl (omega arith) (omega arith) c.equal.invariant.same c.if-not-are_same.ensures;
+      same = block_more c.args.ids.now c.args.others.now c.equal.at (c.equal.at + 64) 64 _ _ refl (omega arith) (omega arith) c.equal.invariant.same (c.are_apart.ensures c.if-are_apart.false);
     }

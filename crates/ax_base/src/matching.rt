@@ -1,32 +1,34 @@
 //! Where two lists of ids differ.
-ghost use Rattle.std.specs.Prelude.{◌≡◌, ◌≤◌, ◌-◌, ℕ, nat_eq, length, take, drop, Contains};
-ghost use Rattle.std.specs.Cmp.Lexicographic.{pointwise};
-ghost use Rattle.tree_diff.specs.Splices.{AreSharedBut};
+ghost use Rattle.std.specs.Prelude.{◌≡◌, ◌≤◌, ◌-◌, ℕ, false, length, take, drop, Contains};
+ghost use Rattle.ax_base.specs.Splices.{AreSharedBut};
 
-use ax_base::ObjId;
+use crate::ObjId;
 
-/// So many ids are compared as one piece of memory.
+/// So many ids are compared at once.
 const BLOCK: usize = 64;
 
-/// Where a list differs from another: the elements before the first place, and those from the second place on, are in the
-/// other list too. Where the two are the same, one comparison of the whole tells. Else it compares them from both ends.
-pub(crate) fn differing(ids: &[ObjId], others: &[ObjId]) -> (usize, usize)
+/// Where a list differs from another: the elements before the first place are the first of the other list, and those from the
+/// second place on are in the other list too. Where the two are the same, both places are the length of the list. It compares
+/// them from both ends.
+pub fn differing(ids: &[ObjId], others: &[ObjId]) -> (usize, usize)
     ensures { AreSharedBut result.0 result.1 ids.now others.now }
 {
-    let all = ids.len();
-    if are_same(ids, others) {
-        return (all, all);
-    }
     let start = same_start(ids, others);
     let end = same_end(ids, others, start);
     (start, end)
 }
 
-/// Whether two lists are the same.
-fn are_same(ids: &[ObjId], others: &[ObjId]) -> bool
-    ensures { result ≡ pointwise nat_eq ids.now others.now }
+/// Whether two lists of the same length differ. It looks at each element and never ends early, so that a compiler can compare
+/// several at once.
+fn are_apart(ids: &[ObjId], others: &[ObjId]) -> bool
+    requires { length ids.now ≡ length others.now }
+    ensures { result ≡ false → ids.now ≡ others.now }
 {
-    ids == others
+    let mut apart = false;
+    for at in 0..ids.len() {
+        apart |= ids[at] != others[at];
+    }
+    apart
 }
 
 /// How far two lists are the same from their start on.
@@ -52,7 +54,7 @@ fn same_blocks(ids: &[ObjId], others: &[ObjId]) -> usize
     let most = ids.len().min(others.len());
     let mut at = 0;
     'equal: while BLOCK <= most - at {
-        if !are_same(&ids[at..at + BLOCK], &others[at..at + BLOCK]) {
+        if are_apart(&ids[at..at + BLOCK], &others[at..at + BLOCK]) {
             return at;
         }
         at += BLOCK;
@@ -87,7 +89,7 @@ fn same_blocks_behind(ids: &[ObjId], others: &[ObjId], most: usize) -> usize
     let mut done = 0;
     'equal: while BLOCK <= most - done {
         let (end, other_end) = (ids.len() - done, others.len() - done);
-        if !are_same(
+        if are_apart(
             &ids[end - BLOCK..end],
             &others[other_end - BLOCK..other_end],
         ) {

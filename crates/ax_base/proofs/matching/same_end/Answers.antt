@@ -1,6 +1,6 @@
 use Rattle.std.proofs.Common.{arith}
-use Rattle.tree_diff.proofs.Splicing.{one_earlier}
-use Rattle.tree_diff.proofs.splices.same_end.Goals as goal
+use Rattle.ax_base.proofs.Splicing.{one_earlier}
+use Rattle.ax_base.proofs.matching.same_end.Goals as goal
 
 pub loop-done-preserved : goal.loop-done-preserved
 loop-done-preserved c =
