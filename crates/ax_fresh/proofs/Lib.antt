@@ -1,3 +1,4 @@
 pub mod Put
 mod Gathered
 pub mod Above
+pub mod Sameness

@@ -89,7 +89,7 @@ pub fn record_called(
 }
 
 /// The states of a node of a role; a text has none.
-fn states_of(role: Role, node: &Body) -> States
+pub(crate) fn states_of(role: Role, node: &Body) -> States
     ensures { result ≡ states_by role node.now }
 {
     match node {
@@ -99,7 +99,7 @@ fn states_of(role: Role, node: &Body) -> States
 }
 
 /// The level of a node of a role; a text has none.
-fn level_of(role: Role, node: &Body) -> Option<u16>
+pub(crate) fn level_of(role: Role, node: &Body) -> Option<u16>
     ensures { result ≡ level_by role node.now }
 {
     match node {

@@ -7,4 +7,4 @@ mod places;
 
 pub use batches::batch_among;
 pub use moved::moved_kids;
-pub use places::candidates;
+pub use places::{candidates, sorted_once};

@@ -57,7 +57,7 @@ fn push_all(ids: &[ObjId], out: &mut Ids) -> Result<(), NoMemory>
 }
 
 /// The ids of a list, rising, each once.
-fn sorted_once(ids: Ids) -> Ids
+pub fn sorted_once(ids: Ids) -> Ids
     ensures { IsSortedFrom ids result }
 {
     let mut ids = ids.into_vec();
