@@ -7,7 +7,7 @@ use ax_record::{PropList, Record};
 use std::alloc::Global;
 
 /// An object that differs, with the properties that differ.
-#[derive(Drop)]
+#[derive(Debug, Drop, PartialEq, Eq)]
 pub struct Change {
     /// The object.
     pub id: ObjId,
@@ -56,7 +56,7 @@ fn copy_changes(alloc: Global, changes: &[Change]) -> Result<Changes, NoMemory>
 }
 
 /// What differs from one tree to another.
-#[derive(Drop)]
+#[derive(Debug, Drop, PartialEq, Eq)]
 pub struct Batch {
     /// The objects that only the second has, by rising id.
     pub added: Records,

@@ -1,6 +1,7 @@
 //! What several lines do.
 ghost use Rattle.std.specs.Prelude.{◌≡◌, ◌+◌, ◌≤◌, ◌<◌, ◌∷◌, ◌++◌, [], false, IfOk, MatchOption};
 ghost use Rattle.turn_word.specs.Deeds.{last_number};
+ghost use Rattle.story_check.specs.declared.limits.TheConstants.{MAX_CLIENT_LINES};
 ghost use Rattle.story_check.specs.Moments.{tree_at, AreTrees};
 ghost use Rattle.ax_port.specs.States.{SameClient};
 ghost use Rattle.ax_client.specs.Clients.{Took, Listened, with_entry};
@@ -82,7 +83,7 @@ pub(crate) fn listened<R: Wait>(
 
 /// Prints the entry of a line.
 pub(crate) fn printed(side: Side, moment: Moment, body: EntryBody) -> Result<Side, NoMemory>
-    requires { side.done < 16384 }
+    requires { side.done < MAX_CLIENT_LINES }
     ensures { IfOk result (λ next. next ≡ with_entry side moment body) }
 {
     let number = side.done + 1;

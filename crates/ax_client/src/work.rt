@@ -1,6 +1,7 @@
 //! The client's lines, one after another.
 ghost use Rattle.std.specs.Prelude.{◌≡◌, ◌≤◌, ◌∷◌, List, length, true};
 ghost use Rattle.turn_word.specs.Views.{new_client};
+ghost use Rattle.story_check.specs.declared.limits.TheConstants.{MAX_CLIENT_LINES};
 ghost use Rattle.story_check.specs.declared.story.ClientLine.{ClientLine};
 ghost use Rattle.story_check.specs.Stories.{flushes};
 ghost use Rattle.story_check.specs.Moments.{tree_at, AreTrees};
@@ -36,7 +37,7 @@ pub fn client_work<R: Wait, G: Gate>(
     requires own { port.table ≡ ports.now.table }
     requires fresh { port.client ≡ new_client }
     requires lines { lines.now ≡ port.story.client }
-    requires few { length lines.now ≤ 16384 }
+    requires few { length lines.now ≤ MAX_CLIENT_LINES }
     requires flushes { count ≡ flushes port.story.page }
     requires trees { AreTrees port.story }
     requires tree { tree ≡ tree_at port.story 0 }

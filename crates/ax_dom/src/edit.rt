@@ -5,7 +5,7 @@ use ax_base::{Attrs, NoMemory, ObjId, Rect, Runs, Text};
 use std::alloc::Global;
 
 /// An edit of a document.
-#[derive(Drop)]
+#[derive(Debug, Drop)]
 pub enum Edit {
     /// A new element, before the child `before` of `into`, or as its last child. Its frame is empty.
     InsertElement {

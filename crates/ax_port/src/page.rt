@@ -34,8 +34,9 @@ pub struct PagePort {
 }
 
 impl Model for PagePort {
-    ghost use Rattle.std.specs.Prelude.{◌≡◌, ◌≤◌, None};
+    ghost use Rattle.std.specs.Prelude.{◌≡◌, ◌≤◌, ◌+◌, None};
     ghost use Rattle.turn_word.specs.Ports.{IsTurnTable, IsPage};
+    ghost use Rattle.story_check.specs.declared.limits.TheConstants.{MAX_FLUSHES};
     ghost use Rattle.story_check.specs.Stories.{flushes};
     ghost use Rattle.ax_port.specs.States.{PageState, story_or, page_or};
 
@@ -43,7 +44,7 @@ impl Model for PagePort {
 
     ghost view = { λ p. record { table = p.seat.table_id; story = story_or p.seat.me.0.story; page = page_or p.seat.me.0.page } };
 
-    ghost invariant = { λ p. IsTurnTable p.seat.table_id × IsPage p.seat.me (λ d r. (r.held ≡ None) × (flushes d.page ≤ 65537)) };
+    ghost invariant = { λ p. IsTurnTable p.seat.table_id × IsPage p.seat.me (λ d r. (r.held ≡ None) × (flushes d.page ≤ MAX_FLUSHES + 1)) };
 }
 
 impl PagePort {

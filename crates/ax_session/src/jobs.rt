@@ -1,6 +1,7 @@
 //! The two workers as jobs of a spawner.
 ghost use Rattle.std.specs.Prelude.{◌≡◌, ◌≤◌, length, true};
 ghost use Rattle.turn_word.specs.Views.{new_page, new_client};
+ghost use Rattle.story_check.specs.declared.limits.TheConstants.{MAX_CLIENT_LINES};
 ghost use Rattle.story_check.specs.Stories.{flushes};
 ghost use Rattle.story_check.specs.Moments.{tree_at, document_at, IsAccepted, AreTrees};
 ghost use Rattle.live_tree.specs.LiveTrees.{unmarked};
@@ -64,7 +65,7 @@ impl<'a, G: Gate> Job for PageJob<'a, G> {
 impl<'a, G: Gate> Job for ClientJob<'a, G> {
     type Out = (ClientPort, ClientEnd);
 
-    ghost ready = { λ j. (j.port.table ≡ j.ports.now.table) × (j.port.client ≡ new_client) × (j.lines.now ≡ j.port.story.client) × (length j.lines.now ≤ 16384) × (j.flushes ≡ flushes j.port.story.page) × AreTrees j.port.story × (j.tree ≡ tree_at j.port.story 0) };
+    ghost ready = { λ j. (j.port.table ≡ j.ports.now.table) × (j.port.client ≡ new_client) × (j.lines.now ≡ j.port.story.client) × (length j.lines.now ≤ MAX_CLIENT_LINES) × (j.flushes ≡ flushes j.port.story.page) × AreTrees j.port.story × (j.tree ≡ tree_at j.port.story 0) };
 
     ghost gives = { λ j r. SameClient j.port r.0 × ClientDid j.port.story r.0.client r.1 };
 

@@ -1,5 +1,6 @@
 //! The core on one thread.
 ghost use Rattle.std.specs.Prelude.{◌≡◌, ℕ, ◌+◌, ◌↔◌, ◌≤◌, ◌<◌, IfOk, IsTrue, Some, slice_get, length, false};
+ghost use Rattle.story_check.specs.declared.limits.TheConstants.{MAX_CLIENT_LINES, MAX_FLUSHES};
 ghost use Rattle.story_check.specs.declared.story.PageLine.TheVariants.{Change, Flush, Until};
 ghost use Rattle.story_check.specs.Stories.{Script, flushes, stuck};
 ghost use Rattle.story_check.specs.Moments.{IsAccepted};
@@ -138,7 +139,7 @@ impl World {
 
     /// The page publishes one more moment.
     fn flushed(self, alloc: Global, done: usize) -> Result<World, NoMemory>
-        requires few { flushes self.story.page ≤ 65537 }
+        requires few { flushes self.story.page ≤ MAX_FLUSHES + 1 }
         requires line { slice_get self.story.page self.state.page_done ≡ Some Flush }
         requires done { done ≡ self.state.page_done + 1 }
         ensures { IfOk result (λ w. w ≡ record { story = self.story; state = record self.state { page_done = done; published = self.state.published + 1 } }) }
@@ -218,7 +219,7 @@ impl World {
 
     /// The client prints the notices that it took and did not print, for its next line.
     fn told(self, alloc: Global) -> Result<World, NoMemory>
-        requires few { length self.story.client ≤ 16384 }
+        requires few { length self.story.client ≤ MAX_CLIENT_LINES }
         requires line { self.state.client_done < length self.story.client }
         ensures { IfOk result (λ w. w ≡ record { story = self.story; state = record (printed self.state self.state.taken (NoticesBody (notices_of self.story self.state.noticed self.state.taken))) { noticed = self.state.taken } }) }
     {
@@ -241,7 +242,7 @@ impl World {
 
     /// The client prints an answer from its tree, for its next line.
     fn replied(self, alloc: Global, request: &Request) -> Result<World, NoMemory>
-        requires few { length self.story.client ≤ 16384 }
+        requires few { length self.story.client ≤ MAX_CLIENT_LINES }
         requires line { self.state.client_done < length self.story.client }
         ensures { IfOk result (λ w. w ≡ record { story = self.story; state = printed self.state self.state.taken (ReplyBody (answer_at self.story self.state.taken request.now)) }) }
     {
@@ -252,7 +253,7 @@ impl World {
 
     /// The client prints an entry for its next line.
     fn printed(self, moment: u32, body: EntryBody) -> Result<World, NoMemory>
-        requires few { length self.story.client ≤ 16384 }
+        requires few { length self.story.client ≤ MAX_CLIENT_LINES }
         requires line { self.state.client_done < length self.story.client }
         ensures { IfOk result (λ w. w ≡ record { story = self.story; state = printed self.state moment body }) }
     {

@@ -1,5 +1,5 @@
 -- Acceptance: which bytes are a story, and the first refusal of all others.
-use Rattle.std.specs.Prelude.{◌≡◌, ℕ, ◌+◌, ◌<◌, ◌^◌, ◌==◌, map, List, [], ◌∷◌, ◌++◌, length, Bool, true, false, not, ◌&&◌, ◌||◌, nat_le, nat_lt, is_some, if◌then◌else◌, Option, Some, None, Result, Ok, Err}
+use Rattle.std.specs.Prelude.{◌≡◌, ℕ, ◌+◌, ◌<◌, ◌==◌, map, List, [], ◌∷◌, ◌++◌, length, Bool, true, false, not, ◌&&◌, ◌||◌, nat_le, nat_lt, is_some, if◌then◌else◌, Option, Some, None, Result, Ok, Err}
 use Rattle.std.specs.List.{slice_split, position_or_len, before_first, after_first, list_all}
 use Rattle.std.specs.Option.{option_and_then, option_or}
 use Rattle.std.specs.Str.{is_utf8}
@@ -27,6 +27,7 @@ use Rattle.story_check.specs.declared.refusals.Refusal.{Refusal}
 use Rattle.story_check.specs.declared.refusals.AcceptFail.{AcceptFail}
 use Rattle.story_check.specs.declared.refusals.AcceptFail.TheVariants.{Refused, NoMemory}
 use Rattle.story_check.specs.Stories.{Script, flushes, closed, stuck}
+use Rattle.story_check.specs.declared.limits.TheConstants.{MAX_CLIENT_LINES, MAX_FLUSHES, MAX_STORY_BYTES, MAX_TURNS}
 
 -- the lines so far: the document after all their edits, whether the start line came, the edits before it, the lines of the page and of
 -- the client, each moment awaited behind the number of its line, and the turns, once a turn list came
@@ -75,7 +76,7 @@ is_letter b = b == 80 || b == 67
 
 -- a turn list has no other character, and at most 1,048,576 of these
 abbrev pub is_turn_list : Chars → Bool
-is_turn_list text = list_all is_letter text && nat_le (length text) (2 ^ 20)
+is_turn_list text = list_all is_letter text && nat_le (length text) MAX_TURNS
 
 -- the side of a letter: P is the page, C the client
 abbrev pub side : ℕ → Who
@@ -83,13 +84,13 @@ side b = if b == 80 then Page else Client
 
 -- why a line of the client is refused: it stands before the start, or behind 16,384 such lines
 abbrev pub client_cause : Progress → Option Cause
-client_cause p = first_cause ((not p.started, NoStart) ∷ (nat_le 16384 (length p.client), TooManyAsks) ∷ [])
+client_cause p = first_cause ((not p.started, NoStart) ∷ (nat_le MAX_CLIENT_LINES (length p.client), TooManyAsks) ∷ [])
 
 -- why a line is refused after these: the causes of its kind in the order in which they are tried
 abbrev pub line_cause : Progress → Line → Option Cause
 line_cause p (EditLine e) = option_and_then cause_of (edit_cause p.document e)
 line_cause p StartLine = first_cause ((p.started, SecondStart) ∷ [])
-line_cause p FlushLine = first_cause ((not p.started, NoStart) ∷ (nat_le 65536 (flushes p.page), TooManyFlushes) ∷ [])
+line_cause p FlushLine = first_cause ((not p.started, NoStart) ∷ (nat_le MAX_FLUSHES (flushes p.page), TooManyFlushes) ∷ [])
 line_cause p (UntilLine k) = first_cause ((not p.started, NoStart) ∷ [])
 line_cause p (AskLine r) = client_cause p
 line_cause p (AgainLine r) = client_cause p
@@ -197,7 +198,7 @@ judged_lines lines = ended (after_lines 1 at_first lines)
 
 -- what the bytes are: a story, or the first refusal. They may be 16,777,216, and have to be UTF-8
 unfoldable pub judged : List ℕ → Result Script Refusal
-judged bytes = if nat_lt (2 ^ 24) (length bytes) then Err (whole StoryTooLong) else if is_utf8 bytes then judged_lines (pieces bytes) else Err (whole NotUtf8)
+judged bytes = if nat_lt MAX_STORY_BYTES (length bytes) then Err (whole StoryTooLong) else if is_utf8 bytes then judged_lines (pieces bytes) else Err (whole NotUtf8)
 
 -- the bytes are this story
 abbrev pub Accepted : List ℕ → Script → Type 0

@@ -1,5 +1,5 @@
 //! Accepting a story.
-ghost use Rattle.std.specs.Prelude.{◌≡◌, ◌≤◌, ◌+◌, ◌^◌, length, false, IfOk, IfErr, IfSome, MatchOption};
+ghost use Rattle.std.specs.Prelude.{◌≡◌, ◌≤◌, ◌+◌, length, false, IfOk, IfErr, IfSome, MatchOption};
 ghost use Rattle.std.specs.Str.{IsUtf8};
 ghost use Rattle.story_check.specs.Moments.{IsAccepted};
 ghost use Rattle.story_check.specs.Stories.{Script, stuck};
@@ -9,12 +9,9 @@ ghost use Rattle.story_check.specs.Last.{IsLastOf};
 
 use crate::progress::Reading;
 use crate::refusals::whole;
-use crate::{AcceptFail, Cause, LastMoment, Story};
+use crate::{AcceptFail, Cause, LastMoment, MAX_STORY_BYTES, Story};
 use ax_dom::Dom;
 use std::alloc::Global;
-
-/// The most bytes of a story.
-const MAX_BYTES: usize = 16_777_216;
 
 /// The story of these bytes, or their first refusal. It takes one pass over the lines, and every edit of a story is accepted
 /// in the document after all earlier ones and has its rectangles within bounds, and no line of it can wait for ever.
@@ -45,7 +42,7 @@ pub fn accept_last(alloc: Global, bytes: &[u8]) -> Result<LastMoment, AcceptFail
 fn judge(alloc: Global, bytes: &[u8], keeps: bool) -> Result<(Story, Dom), AcceptFail>
     ensures { Accepts result (told_where keeps (judged bytes.now)) }
 {
-    if bytes.len() > MAX_BYTES {
+    if bytes.len() > MAX_STORY_BYTES {
         return Err(whole(Cause::StoryTooLong));
     }
     match str::from_utf8(bytes) {
@@ -56,7 +53,7 @@ fn judge(alloc: Global, bytes: &[u8], keeps: bool) -> Result<(Story, Dom), Accep
 
 /// The same for these lines.
 fn judge_lines(alloc: Global, text: &str, keeps: bool) -> Result<(Story, Dom), AcceptFail>
-    requires short { length text.now ≤ 2 ^ 24 }
+    requires short { length text.now ≤ MAX_STORY_BYTES }
     ensures { Accepts result (told_where keeps (judged_lines (pieces text.now))) }
 {
     let mut reading = Reading::new(alloc, keeps)?;
@@ -66,7 +63,7 @@ fn judge_lines(alloc: Global, text: &str, keeps: bool) -> Result<(Story, Dom), A
 
 /// Reads all lines, from the first.
 fn read_lines(alloc: Global, reading: &mut Reading, text: &str) -> Result<(), AcceptFail>
-    requires short { length text.now ≤ 2 ^ 24 }
+    requires short { length text.now ≤ MAX_STORY_BYTES }
     ensures { (p : Progress) → reading.old ≡ held reading.old.keeps p → GoesOn result reading.old.keeps reading.new (after_lines 1 p (pieces text.now)) }
 {
     let mut rest = text;

@@ -1,5 +1,5 @@
 //! The lines of a story that are read so far.
-ghost use Rattle.std.specs.Prelude.{◌≡◌, ◌<◌, ◌≤◌, false, ◌++◌, ◌∷◌, [], if◌then◌else◌, map, length, IfOk, OnOk, None};
+ghost use Rattle.std.specs.Prelude.{◌≡◌, ◌<◌, ◌≤◌, ◌+◌, false, ◌++◌, ◌∷◌, [], if◌then◌else◌, map, length, IfOk, OnOk, None};
 ghost use Rattle.std.specs.List.{list_all};
 ghost use Rattle.std.specs.Option.{option_map};
 ghost use Rattle.ax_dom.specs.Bounds.{EditKeepsBounds};
@@ -13,21 +13,15 @@ ghost use Rattle.story_check.specs.Acceptance.{Progress, at_first, cause_of, edi
 ghost use Rattle.story_check.specs.Holding.{held, held_edit, held_line, told, GoesOn};
 
 use crate::refusals::{refused, whole};
-use crate::{AcceptFail, Cause, ClientLine, PageLine, Refusal, Story, stuck};
+use crate::{
+    AcceptFail, Cause, ClientLine, MAX_CLIENT_LINES, MAX_FLUSHES, MAX_TURNS, PageLine, Refusal,
+    Story, stuck,
+};
 use ax_base::{Moment, NoMemory, Text, Who};
 use ax_dom::{Dom, Edit, EditCause};
 use std::alloc::Global;
 use std::marker::Model;
 use story_lines::{Line, LineFail, read_line};
-
-/// The most flush lines of a story.
-const MAX_FLUSHES: u32 = 65_536;
-
-/// The most lines of the client.
-const MAX_ASKS: usize = 16_384;
-
-/// The most characters of a turn list.
-const MAX_TURNS: usize = 1_048_576;
 
 /// The lines that are read so far, with or without their edits, and the document after these.
 #[derive(Drop)]
@@ -49,6 +43,7 @@ pub struct Reading {
 impl Model for Reading {
     ghost use Rattle.std.specs.Prelude.{◌≡◌, ◌≤◌, length};
     ghost use Rattle.std.specs.Option.{option_map};
+    ghost use Rattle.story_check.specs.declared.limits.TheConstants.{MAX_CLIENT_LINES, MAX_FLUSHES};
     ghost use Rattle.story_check.specs.Stories.{flushes};
     ghost use Rattle.story_check.specs.Holding.{Held};
 
@@ -56,7 +51,7 @@ impl Model for Reading {
 
     ghost view = { λ s. record { keeps = s.keeps; pending = s.pending; lines = record { document = s.dom; started = s.started; base = s.base.items; page = s.page.items; client = s.client.items; awaits = s.awaits.items; turns = option_map (λ v. v.items) s.turns } } };
 
-    ghost invariant = { λ s. (flushes s.page.items ≡ s.count) × (flushes s.page.items ≤ 65536) × (length s.client.items ≤ 16384) };
+    ghost invariant = { λ s. (flushes s.page.items ≡ s.count) × (flushes s.page.items ≤ MAX_FLUSHES) × (length s.client.items ≤ MAX_CLIENT_LINES) };
 }
 
 /// The cause of the same name, and `None` for want of memory.
@@ -147,9 +142,9 @@ fn turns_of(alloc: Global, turns: Option<Vec<Who>>) -> Vec<Who>
 /// The lines of a page, with its closing flush where an edit stands behind the last one.
 #[tactic(auto, using(crate::proofs::Caps::flushes_with))]
 fn closed(mut page: Vec<PageLine>, pending: bool) -> Result<Vec<PageLine>, NoMemory>
-    requires { flushes page.items ≤ 65536 }
+    requires { flushes page.items ≤ MAX_FLUSHES }
     ensures lines { IfOk result (λ p. p.items ≡ (if pending then page.items ++ Flush ∷ [] else page.items)) }
-    ensures few { IfOk result (λ p. flushes p.items ≤ 65537) }
+    ensures few { IfOk result (λ p. flushes p.items ≤ MAX_FLUSHES + 1) }
 {
     if pending {
         page.push(PageLine::Flush)?;
@@ -159,8 +154,8 @@ fn closed(mut page: Vec<PageLine>, pending: bool) -> Result<Vec<PageLine>, NoMem
 
 /// The story of these parts.
 fn story_of(base: Vec<Edit>, page: Vec<PageLine>, client: Vec<ClientLine>, turns: Vec<Who>) -> Story
-    requires flushes { flushes page.items ≤ 65537 }
-    requires asks { length client.items ≤ 16384 }
+    requires flushes { flushes page.items ≤ MAX_FLUSHES + 1 }
+    requires asks { length client.items ≤ MAX_CLIENT_LINES }
     ensures { result ≡ record { base = base.items; page = page.items; client = client.items; turns = turns.items } }
 {
     Story::new(base, page, client, turns).unwrap()
@@ -269,7 +264,7 @@ impl Reading {
     /// Adds a flush to the page.
     #[tactic(auto, using(crate::proofs::Caps::flushes_with))]
     fn add_flush(&mut self) -> Result<(), NoMemory>
-        requires { flushes self.old.lines.page < 65536 }
+        requires { flushes self.old.lines.page < MAX_FLUSHES }
         ensures { OnOk result (self.new ≡ record self.old { pending = false; lines = with_page Flush self.old.lines }) }
     {
         self.page.push(PageLine::Flush)?;
@@ -289,7 +284,7 @@ impl Reading {
 
     /// Adds a line of the client.
     fn add_client(&mut self, line: ClientLine) -> Result<(), NoMemory>
-        requires { length self.old.lines.client < 16384 }
+        requires { length self.old.lines.client < MAX_CLIENT_LINES }
         ensures { OnOk result (self.new ≡ record self.old { lines = with_client line self.old.lines }) }
     {
         self.client.push(line)?;
@@ -360,7 +355,7 @@ impl Reading {
         if !self.started {
             return refused(number, Cause::NoStart);
         }
-        if self.client.len() >= MAX_ASKS {
+        if self.client.len() >= MAX_CLIENT_LINES {
             return refused(number, Cause::TooManyAsks);
         }
         self.add_client(line)?;

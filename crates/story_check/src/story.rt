@@ -1,7 +1,8 @@
 //! The lines of a story.
-ghost use Rattle.std.specs.Prelude.{◌≡◌, ◌≤◌, ◌↔◌, length, IsSome, IfSome};
+ghost use Rattle.std.specs.Prelude.{◌≡◌, ◌≤◌, ◌+◌, ◌↔◌, length, IsSome, IfSome};
 ghost use Rattle.story_check.specs.Stories.{flushes};
 
+use crate::{MAX_CLIENT_LINES, MAX_FLUSHES};
 use ax_ask::Request;
 use ax_base::{Moment, Who};
 use ax_dom::Edit;
@@ -44,14 +45,15 @@ pub struct Story {
 }
 
 impl Model for Story {
-    ghost use Rattle.std.specs.Prelude.{◌≡◌, ◌≤◌, length};
+    ghost use Rattle.std.specs.Prelude.{◌≡◌, ◌≤◌, ◌+◌, length};
+    ghost use Rattle.story_check.specs.declared.limits.TheConstants.{MAX_CLIENT_LINES, MAX_FLUSHES};
     ghost use Rattle.story_check.specs.Stories.{Script, flushes};
 
     ghost Value = { Script };
 
     ghost view = { λ s. record { base = s.base.items; page = s.page.items; client = s.client.items; turns = s.turns.items } };
 
-    ghost invariant = { λ s. (flushes s.page.items ≡ s.count) × (flushes s.page.items ≤ 65537) × (length s.client.items ≤ 16384) };
+    ghost invariant = { λ s. (flushes s.page.items ≡ s.count) × (flushes s.page.items ≤ MAX_FLUSHES + 1) × (length s.client.items ≤ MAX_CLIENT_LINES) };
 }
 
 impl Story {
@@ -62,16 +64,16 @@ impl Story {
         client: Vec<ClientLine>,
         turns: Vec<Who>,
     ) -> Option<Story>
-        ensures few { IsSome result ↔ ((flushes page.items ≤ 65537) × (length client.items ≤ 16384)) }
+        ensures few { IsSome result ↔ ((flushes page.items ≤ MAX_FLUSHES + 1) × (length client.items ≤ MAX_CLIENT_LINES)) }
         ensures value { IfSome result (λ s. s ≡ record { base = base.items; page = page.items; client = client.items; turns = turns.items }) }
     {
-        if client.len() > 16384 {
+        if client.len() > MAX_CLIENT_LINES {
             return None;
         }
         let mut count = 0;
         for line in page.iter() {
             if let PageLine::Flush = line {
-                if count == 65537 {
+                if count == MAX_FLUSHES + 1 {
                     return None;
                 }
                 count += 1;
@@ -96,7 +98,7 @@ impl Story {
     /// The lines of the page.
     pub fn page(&self) -> &[PageLine]
         ensures is { result.now ≡ self.now.page }
-        ensures most { flushes self.now.page ≤ 65537 }
+        ensures most { flushes self.now.page ≤ MAX_FLUSHES + 1 }
     {
         self.page.as_slice()
     }
@@ -104,7 +106,7 @@ impl Story {
     /// The lines of the client.
     pub fn client(&self) -> &[ClientLine]
         ensures is { result.now ≡ self.now.client }
-        ensures most { length self.now.client ≤ 16384 }
+        ensures most { length self.now.client ≤ MAX_CLIENT_LINES }
     {
         self.client.as_slice()
     }
@@ -126,7 +128,7 @@ impl Story {
     /// The number of flushes of the page.
     pub fn flushes(&self) -> u32
         ensures is { result ≡ flushes self.now.page }
-        ensures most { flushes self.now.page ≤ 65537 }
+        ensures most { flushes self.now.page ≤ MAX_FLUSHES + 1 }
     {
         self.count
     }

@@ -1,5 +1,6 @@
 //! Whether a line of a story could wait for ever.
-ghost use Rattle.std.specs.Prelude.{◌≡◌, ◌≤◌, ◌<◌, ℕ, drop, length, take};
+ghost use Rattle.std.specs.Prelude.{◌≡◌, ◌≤◌, ◌<◌, ◌+◌, ℕ, drop, length, take};
+ghost use Rattle.story_check.specs.declared.limits.TheConstants.{MAX_FLUSHES};
 ghost use Rattle.story_check.specs.Stories.{flushes, cap, untils_met, stuck};
 ghost use Rattle.story_check.specs.Passes.{IsPast, IsAhead};
 
@@ -14,7 +15,7 @@ struct Reach {
 
 /// Goes on over lines that do not wait for more than `taken`.
 fn advance(page: &[PageLine], from: Reach, taken: u32) -> Reach
-    requires few { flushes page.now ≤ 65537 }
+    requires few { flushes page.now ≤ MAX_FLUSHES + 1 }
     requires from { IsPast page.now from taken }
     ensures past { IsPast page.now result taken }
     ensures ahead { IsAhead page.now result taken }
