@@ -2,7 +2,7 @@
 use Rattle.std.specs.Prelude.{◌≡◌, ℕ, ◌+◌, ◌≤◌, max, List, [], ◌∷◌, take}
 use Rattle.story_check.specs.declared.story.ClientLine.{ClientLine}
 use Rattle.story_check.specs.declared.story.ClientLine.TheVariants.{Ask, Again, Hear, Await, Notices}
-use Rattle.story_check.specs.Stories.{Script, flushes, cap}
+use Rattle.story_check.specs.Stories.{Story, flushes, cap}
 use Rattle.ax_ask.specs.declared.transcripts.Entry.{Entry}
 use Rattle.ax_ask.specs.declared.transcripts.Transcript.{Transcript}
 use Rattle.ax_ask.specs.declared.transcripts.EntryBody.TheVariants.{Reply, Await as AwaitBody, Hear as HearBody, Notices as NoticesBody}
@@ -19,11 +19,11 @@ abbrev pub outset : Place
 outset = record { lines = 0; moment = 0; bell = 0; noticed = 0 }
 
 -- a number that a take or a look may find
-abbrev pub IsFound : Script → Place → ℕ → Type 0
+abbrev pub IsFound : Story → Place → ℕ → Type 0
 IsFound s c k = (max c.moment c.bell ≤ k) × (k ≤ cap s.page c.moment)
 
 -- an entry that a line may give
-abbrev pub IsEntry : Script → Place → ClientLine → Entry → Type 0
+abbrev pub IsEntry : Story → Place → ClientLine → Entry → Type 0
 IsEntry s c (Ask q) e = IsFound s c e.moment × (e.body ≡ Reply (answer_at s e.moment q))
 IsEntry s c (Await a) e = IsFound s c e.moment × (a ≤ e.moment) × (e.body ≡ AwaitBody)
 IsEntry s c (Again q) e = (e.moment ≡ c.moment) × (e.body ≡ Reply (answer_at s c.moment q))
@@ -45,20 +45,20 @@ place_after c (l ∷ ls) [] = c
 place_after c (l ∷ ls) (e ∷ es) = place_after (after_entry c l e) ls es
 
 -- these lines may give these entries, one each, with their numbers
-abbrev pub AreLegal : Script → Place → List ClientLine → List Entry → Type 0
+abbrev pub AreLegal : Story → Place → List ClientLine → List Entry → Type 0
 AreLegal s c [] [] = Unit
 AreLegal s c (line ∷ lines) (e ∷ es) = (e.number ≡ c.lines + 1) × IsEntry s c line e × AreLegal s (after_entry c line e) lines es
 AreLegal s c [] (e ∷ es) = ⊥
 AreLegal s c (line ∷ lines) [] = ⊥
 
 -- the entries of the first j lines of the client
-abbrev pub IsLegalSoFar : Script → ℕ → List Entry → Type 0
+abbrev pub IsLegalSoFar : Story → ℕ → List Entry → Type 0
 IsLegalSoFar s j es = AreLegal s outset (take j s.client) es
 
 -- the entries of all lines of the client
-abbrev pub IsLegal : Script → List Entry → Type 0
+abbrev pub IsLegal : Story → List Entry → Type 0
 IsLegal s es = AreLegal s outset s.client es
 
 -- the transcript of a whole run: all flushes of the page, and the entries of all lines of the client
-abbrev pub IsLegalTranscript : Script → Transcript → Type 0
+abbrev pub IsLegalTranscript : Story → Transcript → Type 0
 IsLegalTranscript s w = (w.flushes ≡ flushes s.page) × IsLegal s w.entries

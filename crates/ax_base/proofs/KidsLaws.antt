@@ -8,7 +8,7 @@ use Rattle.ax_base.specs.Document.{Document, has, spot, children, lineage, ances
 use Rattle.ax_base.specs.Trees.{IsTree}
 use Rattle.ax_base.specs.Roles.{hides, prunes, ignored}
 use Rattle.ax_base.specs.States.{sets_live}
-use Rattle.ax_base.specs.Context.{is_hidden, is_pruned, is_out, is_shut, first_live, live_at}
+use Rattle.ax_base.specs.Context.{is_hidden, is_presentational_descendant, is_out, is_shut, first_live, live_at}
 use Rattle.ax_base.specs.Kids.{standing, kids, kids_from, taken, from_kids}
 use Rattle.ax_base.proofs.Below.{from_below_unfolds}
 use Rattle.ax_base.proofs.Joins.{in_flat_map}
@@ -94,12 +94,12 @@ module _ (d : Document) (t : IsTree d) where
       below apart = let up = t.hung n there apart in lineage-child d t up.0 n up.1 ∙ ap (λ l. n ∷ l) (sym (ancestors-child up.0 n up.1))
 
   -- what is below a node is out where the node is hidden, prunes or is pruned
-  pub shut-ancestors : (n : ℕ) → has d n ≡ true → is_shut d n ≡ (is_hidden d n || (prunes (spot d n) || is_pruned d n))
+  pub shut-ancestors : (n : ℕ) → has d n ≡ true → is_shut d n ≡ (is_hidden d n || (prunes (spot d n) || is_presentational_descendant d n))
   shut-ancestors n there = ap (λ ns. is_hidden d n || list_any (λ a. prunes (spot d a)) ns) (lineage-ancestors n there)
 
   -- where a node is not out, what is below it is out just where it prunes
   pub shut-prunes : (n : ℕ) → has d n ≡ true → is_out d n ≡ false → is_shut d n ≡ prunes (spot d n)
-  shut-prunes n there visible = shut-ancestors n there ∙ only_middle (is_hidden d n) (prunes (spot d n)) (is_pruned d n) visible
+  shut-prunes n there visible = shut-ancestors n there ∙ only_middle (is_hidden d n) (prunes (spot d n)) (is_presentational_descendant d n) visible
 
   -- the root is not out
   pub root_visible : is_out d root ≡ false

@@ -3,7 +3,7 @@ use Rattle.std.specs.Prelude.{◌≡◌, ℕ, zero, suc, codes, refl, List, [], 
 use Rattle.std.specs.Fmt.{take_chars}
 use Rattle.ax_base.specs.Characters.{Chars, tokens, flat}
 use Rattle.ax_base.specs.Values.{trimmed}
-use Rattle.ax_base.specs.Focusable.{has_counted}
+use Rattle.ax_base.specs.Focusable.{has_global_aria_attribute}
 use Rattle.ax_base.specs.KnownRoles.{known_role}
 use Rattle.ax_base.specs.Recursion.{from_below}
 use Rattle.ax_base.specs.Document.{Document, Node, lineage_within}
@@ -30,7 +30,7 @@ by_text = of (
     ∷ [])
 
 by_text-names : map (name_of by_text) (1 ∷ 2 ∷ 3 ∷ []) ≡ [] ∷ codes "Save" ∷ codes "Save" ∷ []
-unfolding from_below lineage_within flat tokens trimmed known_role has_counted element_role hides_element is_block_element embedded take_chars
+unfolding from_below lineage_within flat tokens trimmed known_role has_global_aria_attribute element_role hides_element is_block_element embedded take_chars
 by_text-names = refl
 
 -- a button that its label names
@@ -42,7 +42,7 @@ by_label = of (
     ∷ [])
 
 by_label-names : map (name_of by_label) (1 ∷ 2 ∷ 3 ∷ []) ≡ [] ∷ codes "Save it" ∷ codes "Other" ∷ []
-unfolding from_below lineage_within flat tokens trimmed known_role has_counted element_role hides_element is_block_element embedded take_chars
+unfolding from_below lineage_within flat tokens trimmed known_role has_global_aria_attribute element_role hides_element is_block_element embedded take_chars
 by_label-names = refl
 
 -- a list and its item take no name from what is in them
@@ -55,7 +55,7 @@ listed = of (
     ∷ [])
 
 listed-names : map (name_of listed) (1 ∷ 2 ∷ 3 ∷ 4 ∷ []) ≡ [] ∷ [] ∷ [] ∷ codes "One" ∷ []
-unfolding from_below lineage_within flat tokens trimmed known_role has_counted element_role hides_element is_block_element embedded take_chars
+unfolding from_below lineage_within flat tokens trimmed known_role has_global_aria_attribute element_role hides_element is_block_element embedded take_chars
 listed-names = refl
 
 -- a field that a hidden element names
@@ -68,7 +68,7 @@ by_hidden = of (
     ∷ [])
 
 by_hidden-name : map (name_of by_hidden) (4 ∷ []) ≡ codes "Total" ∷ []
-unfolding from_below lineage_within flat tokens trimmed known_role has_counted element_role hides_element is_block_element embedded take_chars
+unfolding from_below lineage_within flat tokens trimmed known_role has_global_aria_attribute element_role hides_element is_block_element embedded take_chars
 by_hidden-name = refl
 
 -- a button that names itself
@@ -80,7 +80,7 @@ by_itself = of (
     ∷ [])
 
 by_itself-name : map (name_of by_itself) (2 ∷ []) ≡ codes "A" ∷ []
-unfolding from_below lineage_within flat tokens trimmed known_role has_counted element_role hides_element is_block_element embedded take_chars
+unfolding from_below lineage_within flat tokens trimmed known_role has_global_aria_attribute element_role hides_element is_block_element embedded take_chars
 by_itself-name = refl
 
 -- two buttons that name each other
@@ -94,7 +94,7 @@ each_other = of (
     ∷ [])
 
 each_other-names : map (name_of each_other) (2 ∷ 4 ∷ []) ≡ codes "B" ∷ codes "A" ∷ []
-unfolding from_below lineage_within flat tokens trimmed known_role has_counted element_role hides_element is_block_element embedded take_chars
+unfolding from_below lineage_within flat tokens trimmed known_role has_global_aria_attribute element_role hides_element is_block_element embedded take_chars
 each_other-names = refl
 
 -- three buttons, each named by the next
@@ -110,7 +110,7 @@ in_a_ring = of (
     ∷ [])
 
 in_a_ring-names : map (name_of in_a_ring) (2 ∷ 4 ∷ 6 ∷ []) ≡ codes "B" ∷ codes "C" ∷ codes "A" ∷ []
-unfolding from_below lineage_within flat tokens trimmed known_role has_counted element_role hides_element is_block_element embedded take_chars
+unfolding from_below lineage_within flat tokens trimmed known_role has_global_aria_attribute element_role hides_element is_block_element embedded take_chars
 in_a_ring-names = refl
 
 -- two elements with one id: the first in tree order counts
@@ -125,7 +125,7 @@ twice = of (
     ∷ [])
 
 twice-name : map (name_of twice) (6 ∷ []) ≡ codes "one" ∷ []
-unfolding from_below lineage_within flat tokens trimmed known_role has_counted element_role hides_element is_block_element embedded take_chars
+unfolding from_below lineage_within flat tokens trimmed known_role has_global_aria_attribute element_role hides_element is_block_element embedded take_chars
 twice-name = refl
 
 abbrev moved : Document
@@ -139,7 +139,7 @@ moved = of (
     ∷ [])
 
 moved-name : map (name_of moved) (6 ∷ []) ≡ codes "two" ∷ []
-unfolding from_below lineage_within flat tokens trimmed known_role has_counted element_role hides_element is_block_element embedded take_chars
+unfolding from_below lineage_within flat tokens trimmed known_role has_global_aria_attribute element_role hides_element is_block_element embedded take_chars
 moved-name = refl
 
 -- a box with a description
@@ -153,11 +153,11 @@ described = of (
     ∷ [])
 
 described-name : map (name_of described) (4 ∷ []) ≡ codes "Sync" ∷ []
-unfolding from_below lineage_within flat tokens trimmed known_role has_counted element_role hides_element is_block_element embedded take_chars
+unfolding from_below lineage_within flat tokens trimmed known_role has_global_aria_attribute element_role hides_element is_block_element embedded take_chars
 described-name = refl
 
 described-description : description_of described 4 ≡ codes "Needs sign-in"
-unfolding from_below lineage_within flat tokens trimmed known_role has_counted element_role hides_element is_block_element embedded take_chars
+unfolding from_below lineage_within flat tokens trimmed known_role has_global_aria_attribute element_role hides_element is_block_element embedded take_chars
 described-description = refl
 
 -- the same without a reference: its title describes it
@@ -171,7 +171,7 @@ tipped = of (
     ∷ [])
 
 tipped-description : map (description_of tipped) (4 ∷ 5 ∷ []) ≡ codes "Tip" ∷ [] ∷ []
-unfolding from_below lineage_within flat tokens trimmed known_role has_counted element_role hides_element is_block_element embedded take_chars
+unfolding from_below lineage_within flat tokens trimmed known_role has_global_aria_attribute element_role hides_element is_block_element embedded take_chars
 tipped-description = refl
 
 -- a title that is the name does not describe, and one that is not the name does
@@ -184,11 +184,11 @@ titled = of (
     ∷ [])
 
 titled-names : map (name_of titled) (2 ∷ 3 ∷ 4 ∷ []) ≡ codes "Tip" ∷ codes "Save" ∷ [] ∷ []
-unfolding from_below lineage_within flat tokens trimmed known_role has_counted element_role hides_element is_block_element embedded take_chars
+unfolding from_below lineage_within flat tokens trimmed known_role has_global_aria_attribute element_role hides_element is_block_element embedded take_chars
 titled-names = refl
 
 titled-descriptions : map (description_of titled) (2 ∷ 3 ∷ 4 ∷ []) ≡ [] ∷ codes "Tip" ∷ codes "Tip" ∷ []
-unfolding from_below lineage_within flat tokens trimmed known_role has_counted element_role hides_element is_block_element embedded take_chars
+unfolding from_below lineage_within flat tokens trimmed known_role has_global_aria_attribute element_role hides_element is_block_element embedded take_chars
 titled-descriptions = refl
 
 -- a break is a block without a text: two spaces
@@ -202,11 +202,11 @@ broken = of (
     ∷ [])
 
 broken-text : content_text broken 2 ≡ codes "a  b"
-unfolding from_below lineage_within flat tokens trimmed known_role has_counted element_role hides_element is_block_element embedded take_chars
+unfolding from_below lineage_within flat tokens trimmed known_role has_global_aria_attribute element_role hides_element is_block_element embedded take_chars
 broken-text = refl
 
 broken-name : map (name_of broken) (2 ∷ []) ≡ codes "a b" ∷ []
-unfolding from_below lineage_within flat tokens trimmed known_role has_counted element_role hides_element is_block_element embedded take_chars
+unfolding from_below lineage_within flat tokens trimmed known_role has_global_aria_attribute element_role hides_element is_block_element embedded take_chars
 broken-name = refl
 
 -- a block that hides leaves no spaces, but where all is said
@@ -221,7 +221,7 @@ covered = of (
     ∷ [])
 
 covered-said : map (λ (say : Document → ℕ → Chars). say covered 2) (said0 ∷ said1 ∷ said_all ∷ []) ≡ codes "ab" ∷ codes "ab" ∷ codes "a x b" ∷ []
-unfolding from_below lineage_within flat tokens trimmed known_role has_counted element_role hides_element is_block_element embedded take_chars
+unfolding from_below lineage_within flat tokens trimmed known_role has_global_aria_attribute element_role hides_element is_block_element embedded take_chars
 covered-said = refl
 
 -- `display` makes a block, or makes none
@@ -237,7 +237,7 @@ displayed = of (
     ∷ [])
 
 displayed-text : content_text displayed 2 ≡ codes " a bc"
-unfolding from_below lineage_within flat tokens trimmed known_role has_counted element_role hides_element is_block_element embedded take_chars
+unfolding from_below lineage_within flat tokens trimmed known_role has_global_aria_attribute element_role hides_element is_block_element embedded take_chars
 displayed-text = refl
 
 -- what is said of a target that an ancestor hides is said whole; in one that is shown, what hides is not said
@@ -255,7 +255,7 @@ beneath = of (
     ∷ [])
 
 beneath-name : map (name_of beneath) (9 ∷ []) ≡ codes "y x" ∷ []
-unfolding from_below lineage_within flat tokens trimmed known_role has_counted element_role hides_element is_block_element embedded take_chars
+unfolding from_below lineage_within flat tokens trimmed known_role has_global_aria_attribute element_role hides_element is_block_element embedded take_chars
 beneath-name = refl
 
 -- eight tokens count, those without a target and those that stand twice too
@@ -272,7 +272,7 @@ many = of (
     ∷ [])
 
 many-names : map (name_of many) (6 ∷ 7 ∷ 8 ∷ []) ≡ codes "A A A A A A A B" ∷ codes "A" ∷ codes "C" ∷ []
-unfolding from_below lineage_within flat tokens trimmed known_role has_counted element_role hides_element is_block_element embedded take_chars
+unfolding from_below lineage_within flat tokens trimmed known_role has_global_aria_attribute element_role hides_element is_block_element embedded take_chars
 many-names = refl
 
 -- the `alt` of an `img` names it in any role, and no other element
@@ -285,7 +285,7 @@ pictured = of (
     ∷ [])
 
 pictured-names : map (name_of pictured) (2 ∷ 3 ∷ 4 ∷ []) ≡ codes "x" ∷ [] ∷ codes "x" ∷ []
-unfolding from_below lineage_within flat tokens trimmed known_role has_counted element_role hides_element is_block_element embedded take_chars
+unfolding from_below lineage_within flat tokens trimmed known_role has_global_aria_attribute element_role hides_element is_block_element embedded take_chars
 pictured-names = refl
 
 -- a `label` names the field whose `id` is its `for`; the first counts, also where it is hidden, and only for the first element with the id
@@ -304,7 +304,7 @@ for_fields = of (
     ∷ [])
 
 for_fields-names : map (name_of for_fields) (8 ∷ 9 ∷ 10 ∷ []) ≡ codes "First" ∷ [] ∷ [] ∷ []
-unfolding from_below lineage_within flat tokens trimmed known_role has_counted element_role hides_element is_block_element embedded take_chars
+unfolding from_below lineage_within flat tokens trimmed known_role has_global_aria_attribute element_role hides_element is_block_element embedded take_chars
 for_fields-names = refl
 
 -- a push button is named by its `value`, and no `label` names it
@@ -318,7 +318,7 @@ pushed = of (
     ∷ [])
 
 pushed-names : map (name_of pushed) (4 ∷ 5 ∷ []) ≡ codes "Go" ∷ [] ∷ []
-unfolding from_below lineage_within flat tokens trimmed known_role has_counted element_role hides_element is_block_element embedded take_chars
+unfolding from_below lineage_within flat tokens trimmed known_role has_global_aria_attribute element_role hides_element is_block_element embedded take_chars
 pushed-names = refl
 
 -- what is in a button has references and values of its own
@@ -335,11 +335,11 @@ embedding = of (
     ∷ [])
 
 embedding-said : map (λ (say : Document → ℕ → Chars). say embedding 2) (said0 ∷ said1 ∷ []) ≡ codes " two 3 six " ∷ codes "one two 3 six " ∷ []
-unfolding from_below lineage_within flat tokens trimmed known_role has_counted element_role hides_element is_block_element embedded take_chars
+unfolding from_below lineage_within flat tokens trimmed known_role has_global_aria_attribute element_role hides_element is_block_element embedded take_chars
 embedding-said = refl
 
 embedding-name : map (name_of embedding) (2 ∷ []) ≡ codes "one two 3 six" ∷ []
-unfolding from_below lineage_within flat tokens trimmed known_role has_counted element_role hides_element is_block_element embedded take_chars
+unfolding from_below lineage_within flat tokens trimmed known_role has_global_aria_attribute element_role hides_element is_block_element embedded take_chars
 embedding-name = refl
 
 -- so many letters

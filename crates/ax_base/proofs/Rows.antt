@@ -7,7 +7,7 @@ use Rattle.ax_base.specs.declared.states.Checked.TheVariants.{Yes}
 use Rattle.ax_base.specs.declared.states.Live.TheVariants.{Off, Polite, Assertive}
 use Rattle.ax_base.specs.Characters.{Chars, tokens}
 use Rattle.ax_base.specs.Values.{trimmed}
-use Rattle.ax_base.specs.Focusable.{has_counted, focusable}
+use Rattle.ax_base.specs.Focusable.{has_global_aria_attribute, focusable}
 use Rattle.ax_base.specs.KnownRoles.{known_role}
 use Rattle.ax_base.specs.Recursion.{from_below}
 use Rattle.ax_base.specs.Document.{Document, Node, spot, lineage_within}
@@ -25,51 +25,51 @@ role_attr value = given (codes "role") value ∷ []
 
 -- the first known token counts
 foo_button : element_role (codes "div") (role_attr (codes "foo button")) ≡ Button
-unfolding element_role known_role tokens trimmed has_counted
+unfolding element_role known_role tokens trimmed has_global_aria_attribute
 foo_button = refl
 
 foo_none_button : element_role (codes "div") (role_attr (codes "foo none button")) ≡ NoRole
-unfolding element_role known_role tokens trimmed has_counted
+unfolding element_role known_role tokens trimmed has_global_aria_attribute
 foo_none_button = refl
 
 -- presentation is another word for none, in any case
 presentation : element_role (codes "ul") (role_attr (codes "Presentation button")) ≡ NoRole
-unfolding element_role known_role tokens trimmed has_counted
+unfolding element_role known_role tokens trimmed has_global_aria_attribute
 presentation = refl
 
 -- none gives way to the role of the host language where the element may have the focus
 none_with_tab_index : element_role (codes "ul") (given (codes "role") (codes "none") ∷ given (codes "tabindex") (codes "0") ∷ []) ≡ ListRole
-unfolding element_role known_role tokens trimmed has_counted
+unfolding element_role known_role tokens trimmed has_global_aria_attribute
 none_with_tab_index = refl
 
 none_alone : element_role (codes "ul") (role_attr (codes "none")) ≡ NoRole
-unfolding element_role known_role tokens trimmed has_counted
+unfolding element_role known_role tokens trimmed has_global_aria_attribute
 none_alone = refl
 
 -- an image with a blank `alt` has no role, but where it has a label it is an image
 blank_alt : element_role (codes "img") (given (codes "alt") (codes " ") ∷ []) ≡ NoRole
-unfolding element_role known_role tokens trimmed has_counted
+unfolding element_role known_role tokens trimmed has_global_aria_attribute
 blank_alt = refl
 
 blank_alt_with_label : element_role (codes "img") (given (codes "alt") [] ∷ given (codes "aria-label") (codes "x") ∷ given (codes "role") (codes "none") ∷ []) ≡ Img
-unfolding element_role known_role tokens trimmed has_counted
+unfolding element_role known_role tokens trimmed has_global_aria_attribute
 blank_alt_with_label = refl
 
 no_h7 : map (λ tag. element_role tag []) (codes "h6" ∷ codes "h7" ∷ codes "a" ∷ []) ≡ Heading ∷ Generic ∷ Generic ∷ []
-unfolding element_role known_role tokens trimmed has_counted
+unfolding element_role known_role tokens trimmed has_global_aria_attribute
 no_h7 = refl
 
 range_input : element_role (codes "input") (given (codes "type") (codes " RANGE ") ∷ []) ≡ Slider
-unfolding element_role known_role tokens trimmed has_counted
+unfolding element_role known_role tokens trimmed has_global_aria_attribute
 range_input = refl
 
 -- a generic element is left out also where it may have the focus by its tag, but not where it has a title
 focusable_generic : is_ignored Generic [] ≡ true
-unfolding is_ignored has_counted trimmed
+unfolding is_ignored has_global_aria_attribute trimmed
 focusable_generic = refl
 
 titled_generic : is_ignored Generic (given (codes "title") (codes "x") ∷ []) ≡ false
-unfolding is_ignored has_counted trimmed
+unfolding is_ignored has_global_aria_attribute trimmed
 titled_generic = refl
 
 tab_indexes : map (λ value. focusable (codes "div") (given (codes "tabindex") value ∷ [])) (codes " -1 " ∷ codes "123456789" ∷ codes "1234567890" ∷ codes "-" ∷ codes "+1" ∷ []) ≡ true ∷ true ∷ false ∷ false ∷ false ∷ []
@@ -125,19 +125,19 @@ mixed = record {
 }
 
 mixed-kids : kids mixed 1 ≡ 3 ∷ 4 ∷ 6 ∷ []
-unfolding from_below lineage_within tokens trimmed known_role has_counted element_role hides_element is_ignored
+unfolding from_below lineage_within tokens trimmed known_role has_global_aria_attribute element_role hides_element is_ignored
 mixed-kids = refl
 
 mixed-live : map (live_at mixed) (5 ∷ 4 ∷ 3 ∷ []) ≡ Polite ∷ Polite ∷ Off ∷ []
-unfolding lineage_within tokens trimmed known_role has_counted element_role live_set_by
+unfolding lineage_within tokens trimmed known_role has_global_aria_attribute element_role live_set_by
 mixed-live = refl
 
 mixed-level : level (spot mixed 5) ≡ Some 3
-unfolding tokens trimmed known_role has_counted element_role level_of
+unfolding tokens trimmed known_role has_global_aria_attribute element_role level_of
 mixed-level = refl
 
 mixed-states : states (spot mixed 6) ≡ record no_states { disabled = true; checked = Some Yes }
-unfolding tokens trimmed known_role has_counted element_role states_of
+unfolding tokens trimmed known_role has_global_aria_attribute element_role states_of
 mixed-states = refl
 
 -- divisions in divisions: only what says something is an object
@@ -159,11 +159,11 @@ nested = record {
 }
 
 nested-objects : objects nested ≡ 1 ∷ 2 ∷ 6 ∷ 8 ∷ 7 ∷ 9 ∷ []
-unfolding from_below lineage_within tokens trimmed known_role has_counted element_role hides_element is_ignored
+unfolding from_below lineage_within tokens trimmed known_role has_global_aria_attribute element_role hides_element is_ignored
 nested-objects = refl
 
 nested-kids : kids nested 2 ≡ 6 ∷ 7 ∷ []
-unfolding from_below lineage_within tokens trimmed known_role has_counted element_role hides_element is_ignored
+unfolding from_below lineage_within tokens trimmed known_role has_global_aria_attribute element_role hides_element is_ignored
 nested-kids = refl
 
 -- what is below a hidden element is out
@@ -179,7 +179,7 @@ covered = record {
 }
 
 covered-objects : objects covered ≡ 1 ∷ []
-unfolding from_below lineage_within tokens trimmed known_role has_counted element_role hides_element is_ignored
+unfolding from_below lineage_within tokens trimmed known_role has_global_aria_attribute element_role hides_element is_ignored
 covered-objects = refl
 
 covered-hidden : map (is_hidden covered) (1 ∷ 5 ∷ 6 ∷ []) ≡ false ∷ true ∷ true ∷ []

@@ -10,11 +10,11 @@ use Rattle.ax_base.specs.declared.rect.Rect.{Rect}
 use Rattle.ax_base.specs.declared.role.Role.{Role}
 use Rattle.ax_base.specs.declared.role.Role.TheVariants.{Article, Button, Cell, Checkbox, Columnheader, Generic, Heading, Img, Link, List as ListRole, Listitem, Main, Navigation, NoRole, Paragraph, Radio, Row, Slider, Table, Text, Textbox}
 use Rattle.ax_base.specs.Characters.{Chars, tokens}
-use Rattle.ax_base.specs.Focusable.{has_conflict}
+use Rattle.ax_base.specs.Focusable.{has_presentational_conflict}
 use Rattle.ax_base.specs.Values.{text_in, is_same_word, is_there, has_word}
 use Rattle.ax_base.specs.RoleWords.{role_word}
 use Rattle.ax_base.specs.KnownRoles.{known_roles, known_role, first_known}
-use Rattle.ax_base.specs.Roles.{role_of_anchor, role_of_image, role_of_input, has_blank_alt, role_by_tag, role_given, is_no_role, none_gives_way, host_role, element_role, role_of}
+use Rattle.ax_base.specs.Roles.{role_of_anchor, role_of_image, role_of_input, has_blank_alt, implicit_role, role_from_attribute, is_no_role, resolve_presentational_conflict, host_role, element_role, role_of}
 
 abbrev is_text_role : Role → Bool
 is_text_role Text = true
@@ -71,7 +71,7 @@ input_other attrs =
     row (has_word (codes "type") (codes "reset") attrs) Button refl (
     text_or_other Textbox refl))))))
 
-by_tag_other : (tag : Chars) (attrs : List Attr) → IsOther (role_by_tag tag attrs)
+by_tag_other : (tag : Chars) (attrs : List Attr) → IsOther (implicit_role tag attrs)
 by_tag_other tag attrs =
     row (bytes_eq tag (codes "main")) Main refl (
     row (bytes_eq tag (codes "article")) Article refl (
@@ -98,15 +98,15 @@ by_tag_other tag attrs =
     text_or_other Generic refl))))))))))))))))))))))
 
 host_other : (tag : Chars) (attrs : List Attr) → IsOther (host_role tag attrs)
-host_other tag attrs = either (has_conflict tag attrs && is_no_role (role_by_tag tag attrs)) Img (role_by_tag tag attrs) (text_or_other Img refl) (by_tag_other tag attrs)
+host_other tag attrs = either (has_presentational_conflict tag attrs && is_no_role (implicit_role tag attrs)) Img (implicit_role tag attrs) (text_or_other Img refl) (by_tag_other tag attrs)
 
 element_other : (tag : Chars) (attrs : List Attr) → IsOther (element_role tag attrs)
 unfolding element_role
-element_other tag attrs = go (role_given attrs) (first_other (tokens (text_in (codes "role") attrs)))
+element_other tag attrs = go (role_from_attribute attrs) (first_other (tokens (text_in (codes "role") attrs)))
   where
-    go : (o : Option Role) → IfSome o IsOther → IsOther (none_gives_way (has_conflict tag attrs) (unwrap_or o (host_role tag attrs)) (host_role tag attrs))
-    go None is = either (has_conflict tag attrs && is_no_role (host_role tag attrs)) (host_role tag attrs) (host_role tag attrs) (host_other tag attrs) (host_other tag attrs)
-    go (Some r) is = either (has_conflict tag attrs && is_no_role r) (host_role tag attrs) r (host_other tag attrs) is
+    go : (o : Option Role) → IfSome o IsOther → IsOther (resolve_presentational_conflict (has_presentational_conflict tag attrs) (unwrap_or o (host_role tag attrs)) (host_role tag attrs))
+    go None is = either (has_presentational_conflict tag attrs && is_no_role (host_role tag attrs)) (host_role tag attrs) (host_role tag attrs) (host_other tag attrs) (host_other tag attrs)
+    go (Some r) is = either (has_presentational_conflict tag attrs && is_no_role r) (host_role tag attrs) r (host_other tag attrs) is
 
 -- no element has the role text
 pub element_no_text : (at_root : Bool) (tag : Chars) (attrs : List Attr) (frame : Rect) → role_of at_root (Element tag attrs frame) ≢ Text

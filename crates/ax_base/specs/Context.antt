@@ -12,12 +12,12 @@ abbrev pub is_hidden : Document → ℕ → Bool
 is_hidden d n = list_any (λ a. hides (spot d a)) (lineage d n)
 
 -- whether an ancestor of a node leaves out what is below it
-abbrev pub is_pruned : Document → ℕ → Bool
-is_pruned d n = list_any (λ a. prunes (spot d a)) (ancestors d n)
+abbrev pub is_presentational_descendant : Document → ℕ → Bool
+is_presentational_descendant d n = list_any (λ a. prunes (spot d a)) (ancestors d n)
 
 -- whether a node is out of the tree with all that is below it: it is hidden or pruned
 abbrev pub is_out : Document → ℕ → Bool
-is_out d n = is_hidden d n || is_pruned d n
+is_out d n = is_hidden d n || is_presentational_descendant d n
 
 -- whether all that is below a node is out: it is hidden, or it or an ancestor leaves out what is below
 abbrev pub is_shut : Document → ℕ → Bool

@@ -29,17 +29,17 @@ is_enabled tag attrs = is_control tag && not (is_there (codes "disabled") attrs)
 abbrev pub focusable : Chars → List Attr → Bool
 focusable tag attrs = has_tab_index attrs || (is_link tag attrs || is_enabled tag attrs)
 
--- the global attributes that are counted (WAI-ARIA 1.2, 'Global States and Properties'; which of them is this project's profile)
-abbrev pub counted_names : List Chars
-counted_names =
+-- the global ARIA attributes that count (WAI-ARIA 1.2, 'Global States and Properties'; which of them is this project's profile)
+abbrev pub global_aria_attributes : List Chars
+global_aria_attributes =
     codes "aria-atomic" ∷ codes "aria-busy" ∷ codes "aria-controls" ∷ codes "aria-current" ∷ codes "aria-describedby" ∷ codes "aria-details"
     ∷ codes "aria-flowto" ∷ codes "aria-keyshortcuts" ∷ codes "aria-label" ∷ codes "aria-labelledby" ∷ codes "aria-live" ∷ codes "aria-owns"
     ∷ codes "aria-relevant" ∷ codes "aria-roledescription" ∷ []
 
--- whether an element has one of the counted attributes, and not blank
-unfoldable pub has_counted : List Attr → Bool
-has_counted attrs = list_any (λ name. is_filled name attrs) counted_names
+-- whether an element has one of the global ARIA attributes, and not blank
+unfoldable pub has_global_aria_attribute : List Attr → Bool
+has_global_aria_attribute attrs = list_any (λ name. is_filled name attrs) global_aria_attributes
 
--- whether an element is in conflict with the role none: it may have the focus, or has a counted attribute (WAI-ARIA 1.2, 'Presentational Roles Conflict Resolution')
-abbrev pub has_conflict : Chars → List Attr → Bool
-has_conflict tag attrs = focusable tag attrs || has_counted attrs
+-- whether an element is in conflict with the role none: it may have the focus, or has a global ARIA attribute (WAI-ARIA 1.2, 'Presentational Roles Conflict Resolution')
+abbrev pub has_presentational_conflict : Chars → List Attr → Bool
+has_presentational_conflict tag attrs = focusable tag attrs || has_global_aria_attribute attrs

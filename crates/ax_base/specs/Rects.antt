@@ -44,7 +44,7 @@ abbrev pub united : List Rect → Rect
 united [] = nowhere
 united (r ∷ rs) = fold unite r rs
 
--- whether a number is from an edge on, and before the end of the side from there
+-- whether a number lies in `edge .. edge + side`, the end excluded
 abbrev pub spans : ℤ → ℤ → ℤ → Bool
 spans edge side at = int_le edge at && int_lt at (edge +ℤ side)
 

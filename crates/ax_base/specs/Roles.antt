@@ -7,7 +7,7 @@ use Rattle.ax_base.specs.declared.role.Role.{Role}
 use Rattle.ax_base.specs.declared.role.Role.TheVariants.{Article, Button, Cell, Checkbox, Columnheader, Document, Generic, Heading, Img, Link, List as ListRole, Listitem, Main, Navigation, NoRole, OptionItem, Paragraph, Progressbar, Radio, Row, Slider, Switch, Tab, Table, Text, Textbox}
 use Rattle.ax_base.specs.Characters.{Chars, is_blank, tokens}
 use Rattle.ax_base.specs.Values.{text_in, is_there, is_filled, has_word}
-use Rattle.ax_base.specs.Focusable.{has_tab_index, has_counted, has_conflict}
+use Rattle.ax_base.specs.Focusable.{has_tab_index, has_global_aria_attribute, has_presentational_conflict}
 use Rattle.ax_base.specs.KnownRoles.{first_known}
 use Rattle.ax_base.specs.Document.{Spot, root}
 
@@ -34,8 +34,8 @@ role_of_input attrs =
     (if has_word (codes "type") (codes "reset") attrs then Button else Textbox)))))
 
 -- the role that HTML gives to an element (HTML Accessibility API Mappings, section 3.5; which tags are known is this project's profile)
-abbrev pub role_by_tag : Chars → List Attr → Role
-role_by_tag tag attrs =
+abbrev pub implicit_role : Chars → List Attr → Role
+implicit_role tag attrs =
     if bytes_eq tag (codes "main") then Main else
     (if bytes_eq tag (codes "article") then Article else
     (if bytes_eq tag (codes "button") then Button else
@@ -60,26 +60,26 @@ role_by_tag tag attrs =
     (if bytes_eq tag (codes "input") then role_of_input attrs else Generic)))))))))))))))))))))
 
 -- the role that an element names itself: the first known token of `role` (WAI-ARIA 1.2, section 8.1)
-abbrev pub role_given : List Attr → Option Role
-role_given attrs = first_known (tokens (text_in (codes "role") attrs))
+abbrev pub role_from_attribute : List Attr → Option Role
+role_from_attribute attrs = first_known (tokens (text_in (codes "role") attrs))
 
 -- whether it is the role none
 abbrev pub is_no_role : Role → Bool
 is_no_role NoRole = true
 is_no_role _ = false
 
--- a role; but where it is none, and that is in conflict with something, another one
-abbrev pub none_gives_way : Bool → Role → Role → Role
-none_gives_way conflict r other = if conflict && is_no_role r then other else r
+-- a role, or another one where it is none and there is a presentational-role conflict
+abbrev pub resolve_presentational_conflict : Bool → Role → Role → Role
+resolve_presentational_conflict conflict r other = if conflict && is_no_role r then other else r
 
 -- the role that the host language gives to an element: img where that is none and in conflict
 abbrev pub host_role : Chars → List Attr → Role
-host_role tag attrs = none_gives_way (has_conflict tag attrs) (role_by_tag tag attrs) Img
+host_role tag attrs = resolve_presentational_conflict (has_presentational_conflict tag attrs) (implicit_role tag attrs) Img
 
 -- the role of an element other than the root: the one that it names itself; where it names none of the known ones, or none in a conflict, that of the host language
 -- (WAI-ARIA 1.2, section 8.1 and 'Presentational Roles Conflict Resolution')
 unfoldable pub element_role : Chars → List Attr → Role
-element_role tag attrs = none_gives_way (has_conflict tag attrs) (unwrap_or (role_given attrs) (host_role tag attrs)) (host_role tag attrs)
+element_role tag attrs = resolve_presentational_conflict (has_presentational_conflict tag attrs) (unwrap_or (role_from_attribute attrs) (host_role tag attrs)) (host_role tag attrs)
 
 -- the role of an element that is the root, or is not
 abbrev pub role_of : Bool → Body → Role
@@ -92,21 +92,21 @@ abbrev pub role : Spot → Role
 role n = role_of (n.id == root) n.body
 
 -- the roles whose children are presentational (WAI-ARIA 1.2, 'Presentational Children'; which of them is this project's profile)
-abbrev pub is_pruning : Role → Bool
-is_pruning Button = true
-is_pruning Checkbox = true
-is_pruning Img = true
-is_pruning OptionItem = true
-is_pruning Progressbar = true
-is_pruning Radio = true
-is_pruning Slider = true
-is_pruning Switch = true
-is_pruning Tab = true
-is_pruning _ = false
+abbrev pub children_presentational : Role → Bool
+children_presentational Button = true
+children_presentational Checkbox = true
+children_presentational Img = true
+children_presentational OptionItem = true
+children_presentational Progressbar = true
+children_presentational Radio = true
+children_presentational Slider = true
+children_presentational Switch = true
+children_presentational Tab = true
+children_presentational _ = false
 
 -- whether a node leaves out what is below it
 abbrev pub prunes : Spot → Bool
-prunes n = is_pruning (role n)
+prunes n = children_presentational (role n)
 
 -- whether an element is a hidden field: an `input` whose word of `type` is hidden (HTML, 'Hidden state (type=hidden)')
 abbrev pub is_hidden_field : Chars → List Attr → Bool
@@ -134,9 +134,9 @@ abbrev pub is_generic : Role → Bool
 is_generic Generic = true
 is_generic _ = false
 
--- whether an element says nothing of itself: it has no counted attribute, no `title`, and no `tabindex`; whether it may have the focus by its tag does not matter
+-- whether an element says nothing of itself: it has no global ARIA attribute, no `title`, and no `tabindex`; whether it may have the focus by its tag does not matter
 abbrev pub is_bare : List Attr → Bool
-is_bare attrs = not (has_counted attrs) && (not (is_filled (codes "title") attrs) && not (has_tab_index attrs))
+is_bare attrs = not (has_global_aria_attribute attrs) && (not (is_filled (codes "title") attrs) && not (has_tab_index attrs))
 
 -- whether an element of a role is left out, but not what is below it (WAI-ARIA 1.2, section 7.1; for generic elements this project's profile)
 unfoldable pub is_ignored : Role → List Attr → Bool

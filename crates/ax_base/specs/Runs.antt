@@ -11,7 +11,7 @@ abbrev pub go_on : ℕ → ℕ → ℕ → List Run → Bool
 go_on end from line [] = from == end
 go_on end from line (r ∷ rs) = (r.first == from && nat_lt r.first r.past && nat_le line r.line) && go_on end r.past r.line rs
 
--- whether a text of so many characters may have these runs: none, or runs from its begin to its end
+-- whether a text of so many characters may have these runs: none, or runs from its start to its end
 abbrev pub may_have_runs : ℕ → List Run → Bool
 may_have_runs end [] = true
 may_have_runs end (r ∷ rs) = go_on end 0 0 (r ∷ rs)

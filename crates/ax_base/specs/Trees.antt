@@ -31,7 +31,7 @@ pub record IsTree (d : Document) : Type 0 where
   pub few : length (ids d) ≤ MAX_INSERTS + 1
   -- no text is too long
   pub fits : (n : ℕ) → IsFitting (body d n)
-  -- the runs of each text go from its begin to its end
+  -- the runs of each text go from its start to its end
   pub runs : (n : ℕ) → KeepsRuns (body d n)
   -- every rectangle is within bounds
   pub within : (n : ℕ) → HasRectsWithin (body d n)

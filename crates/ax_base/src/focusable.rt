@@ -2,7 +2,7 @@
 ghost use Rattle.std.specs.Prelude.{◌≡◌};
 ghost use Rattle.std.specs.List.{list_any};
 ghost use Rattle.ax_base.specs.Values.{is_filled};
-ghost use Rattle.ax_base.specs.Focusable.{is_field, is_control, has_tab_index, is_link, is_enabled, focusable, has_counted, has_conflict};
+ghost use Rattle.ax_base.specs.Focusable.{is_field, is_control, has_tab_index, is_link, is_enabled, focusable, has_global_aria_attribute, has_presentational_conflict};
 
 use crate::Attrs;
 use crate::values::is_tab_index;
@@ -47,8 +47,8 @@ fn is_enabled(tag: &str, attrs: &Attrs) -> bool
     is_control(tag) && !attrs.has("disabled")
 }
 
-/// The global attributes that are counted.
-const COUNTED: [&str; 14] = [
+/// The global ARIA attributes that count.
+const GLOBAL_ARIA_ATTRIBUTES: [&str; 14] = [
     "aria-atomic",
     "aria-busy",
     "aria-controls",
@@ -65,12 +65,12 @@ const COUNTED: [&str; 14] = [
     "aria-roledescription",
 ];
 
-/// Whether an element has one of the counted global attributes, and not blank.
-#[tactic(auto, unfolding(crate::specs::Focusable::has_counted))]
-pub fn has_counted(attrs: &Attrs) -> bool
-    ensures { result ≡ has_counted attrs.now }
+/// Whether an element has one of the global ARIA attributes, and not blank.
+#[tactic(auto, unfolding(crate::specs::Focusable::has_global_aria_attribute))]
+pub fn has_global_aria_attribute(attrs: &Attrs) -> bool
+    ensures { result ≡ has_global_aria_attribute attrs.now }
 {
-    let names = COUNTED;
+    let names = GLOBAL_ARIA_ATTRIBUTES;
     has_filled(attrs, names.as_slice())
 }
 
@@ -86,9 +86,9 @@ fn has_filled(attrs: &Attrs, names: &[&str]) -> bool
     false
 }
 
-/// Whether an element is in conflict with the role none: it may have the focus, or has a counted global attribute.
-pub fn has_conflict(tag: &str, attrs: &Attrs) -> bool
-    ensures { result ≡ has_conflict tag.now attrs.now }
+/// Whether an element is in conflict with the role none: it may have the focus, or has a global ARIA attribute.
+pub fn has_presentational_conflict(tag: &str, attrs: &Attrs) -> bool
+    ensures { result ≡ has_presentational_conflict tag.now attrs.now }
 {
-    is_focusable(tag, attrs) || has_counted(attrs)
+    is_focusable(tag, attrs) || has_global_aria_attribute(attrs)
 }

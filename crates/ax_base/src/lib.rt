@@ -27,7 +27,10 @@ mod white;
 
 pub use attrs::{Attr, Attrs};
 pub use body::Body;
-pub use focusable::{has_conflict, has_counted, has_tab_index, is_control, is_field, is_focusable};
+pub use focusable::{
+    has_global_aria_attribute, has_presentational_conflict, has_tab_index, is_control, is_field,
+    is_focusable,
+};
 pub use id_map::IdMap;
 pub use id_set::IdSet;
 pub use ids::{Moment, ObjId, Who};

@@ -4,7 +4,7 @@ ghost use Rattle.ax_base.specs.declared.memory.NoMemory.{NoMemory};
 
 use std::alloc::{AllocError, AllocFailed};
 
-/// There was no memory left. It is the one refusal that no contract ties to a cause.
+/// There was no memory left. It is the only error whose occurrence no contract constrains.
 #[derive(Clone, Copy, Debug, PartialEq, Eq)]
 pub struct NoMemory;
 

@@ -29,7 +29,7 @@ pub fn contains_point(r: Rect, x: i32, y: i32) -> bool
     spans(r.x, r.w, x) && spans(r.y, r.h, y)
 }
 
-/// Whether a number is from an edge on, and before the end of the side from there.
+/// Whether `at` lies in `edge .. edge + side`, the end excluded.
 fn spans(edge: i32, side: i32, at: i32) -> bool
     requires { IsSideWithin edge side }
     ensures { result ≡ spans edge side at }

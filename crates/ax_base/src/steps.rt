@@ -4,7 +4,8 @@ ghost use Rattle.std.specs.Prelude.{◌≡◌, ◌+◌, ℕ, ◌<◌};
 use std::marker::Model;
 use std::sync::ledger::{Book, Ledger, Share};
 
-/// How many nodes of the document were read. It takes no bytes when the program runs, and only `tick` changes it.
+/// How many nodes of the document were read. Each reader of the document takes one and ticks it, so that a contract can
+/// bound the reads. It takes no bytes when the program runs, and only `tick` changes it.
 #[derive(Drop)]
 pub struct Steps<L: Ledger> {
     book: Book<L>,

@@ -5,7 +5,7 @@ use Rattle.turn_word.specs.declared.view.Deed.TheVariants.{Look, Take}
 use Rattle.turn_word.specs.Deeds.{last_number}
 use Rattle.turn_word.proofs.DeedsGrow.{last_number-snoc}
 use Rattle.ax_port.specs.States.{ClientState, with_client, done, taken_up_to}
-use Rattle.story_check.specs.Stories.{Script, cap}
+use Rattle.story_check.specs.Stories.{Story, cap}
 use Rattle.ax_base.specs.declared.notices.Notice.{Notice}
 use Rattle.ax_record.specs.Tree.{Tree}
 use Rattle.story_check.specs.Moments.{tree_at, AreTrees}
@@ -19,11 +19,11 @@ use Rattle.ax_client.specs.Clients.{Took, Listened}
 use Rattle.ax_client.proofs.Deeds.{append-none, looks-snoc}
 
 -- the log fits the client's tree
-pub take_fits : (s : Script) (tree : Tree) (t from to : ℕ) (log : LogEntries) → AreTrees s → tree ≡ tree_at s t → from ≡ t → log ≡ span (tree_at s) from to → MayPatch tree log
+pub take_fits : (s : Story) (tree : Tree) (t from to : ℕ) (log : LogEntries) → AreTrees s → tree ≡ tree_at s t → from ≡ t → log ≡ span (tree_at s) from to → MayPatch tree log
 take_fits s tree t from to log h e f g = subst (λ (y : Tree × LogEntries). MayPatch y.0 y.1) (λ i. (sym e i, sym (g ∙ ap (λ (k : ℕ). span (tree_at s) k to) f) i)) (span_fits (tree_at s) t to h)
 
 -- the notices of a span of a story
-told_of_span : (s : Script) (t p : ℕ) → notices_in (span (tree_at s) t p) ≡ notices_of s t p
+told_of_span : (s : Story) (t p : ℕ) → notices_in (span (tree_at s) t p) ≡ notices_of s t p
 unfolding notices_of
 told_of_span s t p = span_notices (tree_at s) t p
 
@@ -31,7 +31,7 @@ pub took : (old new : ClientState) (side : Side) (from to : ℕ) (tree : Tree) (
     → last_number 0 old.client.deeds ≤ to → from ≤ to → to ≤ cap old.story.page from → tree ≡ patched_by side.tree log → notices ≡ notices_in log → pending ≡ side.pending ++ notices
     → Took old.story old.client new.client side (record { tree = tree; moment = to; pending = pending; entries = side.entries; done = side.done })
 took old new side from to tree log notices pending trees here deed is got rises goes capped patched told more =
-    let s : Script = old.story in
+    let s : Story = old.story in
     let t : ℕ = old.client.taken in
     let up : t ≤ to = let f = is in omega arith in
     let spans : log ≡ span (tree_at s) t to = got ∙ ap (λ (k : ℕ). span (tree_at s) k to) is in

@@ -7,7 +7,7 @@ use Rattle.turn_word.specs.Deeds.{last_number}
 use Rattle.ax_port.specs.States.{ClientState, SameClient, done, taken_up_to}
 use Rattle.story_check.specs.declared.story.ClientLine.{ClientLine}
 use Rattle.story_check.specs.declared.story.ClientLine.TheVariants.{Await}
-use Rattle.story_check.specs.Stories.{Script, cap, awaited}
+use Rattle.story_check.specs.Stories.{Story, cap, awaited}
 use Rattle.ax_ask.specs.declared.transcripts.EntryBody.{EntryBody}
 use Rattle.story_check.specs.Moments.{tree_at, AreTrees}
 use Rattle.ax_answer.specs.Legal.{outset, AreLegal, IsLegalTranscript, place_after}
@@ -27,7 +27,7 @@ pub record AwaitsAt (lines : List ClientLine) (need have taken : ℕ) : Type 0 w
   pub more : have < need
 
 -- what each end says
-abbrev pub ClientDid : Script → ClientRecord → ClientEnd → Type 0
+abbrev pub ClientDid : Story → ClientRecord → ClientEnd → Type 0
 ClientDid s r (Done w) = IsLegalTranscript s w × Follows s.client w.entries r.deeds × (awaited 0 s.client ≤ r.taken)
 ClientDid s r NoMemory = Unit {0}
 ClientDid s r (Ended need have) = LastWasOver have r.deeds × AwaitsAt s.client need have r.taken
@@ -37,7 +37,7 @@ abbrev pub with_entry : Side → ℕ → EntryBody → Side
 with_entry side moment body = record side { entries = side.entries ++ record { number = side.done + 1; moment = moment; body = body } ∷ []; done = side.done + 1 }
 
 -- all that was published was taken, and the tree is that of its last moment
-pub record Took (s : Script) (old new : ClientRecord) (side next : Side) : Type 0 where
+pub record Took (s : Story) (old new : ClientRecord) (side next : Side) : Type 0 where
   pub record_is : new ≡ taken_up_to (done old (Take next.moment)) next.moment
   pub rises : last_number 0 old.deeds ≤ next.moment
   pub goes_on : old.taken ≤ next.moment
@@ -58,7 +58,7 @@ pub record Listened (a b : ClientState) : Type 0 where
   pub rises : last_number 0 a.client.deeds ≤ last_number 0 b.client.deeds
 
 -- the worker between two lines: which are left, and what it made of those before
-pub record ClientStands (s : Script) (left : List ClientLine) (r : ClientRecord) (side : Side) : Type 0 where
+pub record ClientStands (s : Story) (left : List ClientLine) (r : ClientRecord) (side : Side) : Type 0 where
   pub before : List ClientLine
   pub bell : ℕ
   pub noticed : ℕ
@@ -78,6 +78,6 @@ pub record ClientStands (s : Script) (left : List ClientLine) (r : ClientRecord)
   pub pending : side.pending ≡ notices_of s noticed r.taken
 
 -- a line was done, or the worker ends there
-abbrev pub LineDid : Script → List ClientLine → ClientRecord → Result Side ClientEnd → Type 0
+abbrev pub LineDid : Story → List ClientLine → ClientRecord → Result Side ClientEnd → Type 0
 LineDid s left r (Ok side) = ClientStands s left r side
 LineDid s left r (Err end) = ClientDid s r end

@@ -3,7 +3,7 @@ use Rattle.std.proofs.Common.{◌≡◌, ◌⊎◌, inl, inr, ℕ, true, sym, ap
 use Rattle.ax_base.specs.Document.{Document, has, root, parent, depth, body, IsChild}
 use Rattle.ax_base.specs.Trees.{IsTree}
 use Rattle.ax_base.proofs.Places.{parent-child, parent-root, depth-level}
-use Rattle.ax_dom.specs.Slots.{cell_of}
+use Rattle.ax_dom.specs.NodeMaps.{cell_of}
 
 module _ (d e : Document) (t : IsTree d) (u : IsTree e) (q : ℕ) (there : has d q ≡ true) (still : has e q ≡ true) where
   pub parents_agree : (q ≡ root) ⊎ ((p : ℕ) × IsChild d p q × IsChild e p q) → parent d q ≡ parent e q

@@ -15,11 +15,11 @@ use Rattle.ax_base.specs.Texts.{IsFitting}
 use Rattle.ax_base.proofs.Lookups.{finds, finds_same, found_is, lookup-set_value_at}
 use Rattle.ax_base.proofs.Shapes.{HasShapeOf, parent_same, depth_same, tree_same}
 use Rattle.ax_dom.specs.declared.cell.Cell.{Cell}
-use Rattle.ax_dom.specs.declared.cell.Slot.{Slot}
+use Rattle.ax_dom.specs.declared.cell.NodeEntry.{NodeEntry}
 use Rattle.ax_dom.specs.declared.edit.Edit.{Edit}
 use Rattle.ax_dom.specs.declared.edit.Edit.TheVariants.{InsertElement, InsertText, Remove, Move, Chars, Set, Unset, SetRuns, Frame, Focus}
-use Rattle.ax_dom.specs.Slots.{cell_of, slot_at, nodes_of, document_of, IsKept}
-use Rattle.ax_dom.specs.Bodies.{body_after, slot_after}
+use Rattle.ax_dom.specs.NodeMaps.{cell_of, entry_at, nodes_of, document_of, IsKept}
+use Rattle.ax_dom.specs.Bodies.{body_after, entry_after}
 use Rattle.ax_dom.specs.Bounds.{EditKeepsBounds}
 use Rattle.ax_dom.specs.Changes.{with_body}
 use Rattle.ax_dom.specs.Refusals.{is_too_long, has_wrong_runs}
@@ -27,7 +27,7 @@ use Rattle.ax_dom.proofs.Bounded.{body_within}
 use Rattle.ax_dom.proofs.Fitting.{text_fits}
 use Rattle.ax_dom.proofs.Kept.{has_is, children_found}
 use Rattle.ax_dom.proofs.RightRuns.{runs_after}
-use Rattle.ax_dom.proofs.Entries.{nodes_of-set_value, the_slot}
+use Rattle.ax_dom.proofs.Entries.{nodes_of-set_value, the_entry}
 
 -- no edit makes a text of an element, or an element of a text
 pub kind_stays : (e : Edit) (b : Body) → is_text (body_after e b) ≡ is_text b
@@ -107,16 +107,16 @@ module _ (d : Document) (n : ℕ) (b : Body) (there : has d n ≡ true) (kind : 
   unfolding shape_amended
   cell_apart q apart = λ i. record { id = q; parent = sym (parent_same d e shape_amended q) i; depth = sym (depth_same d e shape_amended q) i; body = sym (body_apart q apart) i }
 
-module _ (es : List (ℕ × Slot)) (focus : Option ℕ) (used : List ℕ) (kept : IsKept (document_of es focus used) es) (n : ℕ) (there : has (document_of es focus used) n ≡ true) (edit : Edit) (short : is_too_long edit ≡ false) (right : has_wrong_runs edit (body (document_of es focus used) n) ≡ false) (near : EditKeepsBounds edit)
-    (fs : List (ℕ × Slot)) (changed : (s : Slot) → slot_at es n ≡ Some s → fs ≡ set_value (is_at (nat_cmp n)) es (slot_after edit s)) where
+module _ (es : List (ℕ × NodeEntry)) (focus : Option ℕ) (used : List ℕ) (kept : IsKept (document_of es focus used) es) (n : ℕ) (there : has (document_of es focus used) n ≡ true) (edit : Edit) (short : is_too_long edit ≡ false) (right : has_wrong_runs edit (body (document_of es focus used) n) ≡ false) (near : EditKeepsBounds edit)
+    (fs : List (ℕ × NodeEntry)) (changed : (s : NodeEntry) → entry_at es n ≡ Some s → fs ≡ set_value (is_at (nat_cmp n)) es (entry_after edit s)) where
   abbrev d : Document
   d = document_of es focus used
 
-  slot_here : (s : Slot) × (slot_at es n ≡ Some s)
-  slot_here = the_slot (slot_at es n) (has_is es focus used d n refl ∙ there)
+  entry_here : (s : NodeEntry) × (entry_at es n ≡ Some s)
+  entry_here = the_entry (entry_at es n) (has_is es focus used d n refl ∙ there)
 
-  abbrev s : Slot
-  s = slot_here.0
+  abbrev s : NodeEntry
+  s = entry_here.0
 
   abbrev b : Body
   b = body_after edit (body d n)
@@ -125,26 +125,26 @@ module _ (es : List (ℕ × Slot)) (focus : Option ℕ) (used : List ℕ) (kept 
   after = with_body d n b
 
   body_was : s.cell.body ≡ body d n
-  body_was = ap (λ (x : Cell). x.body) (kept.cells n s slot_here.1)
+  body_was = ap (λ (x : Cell). x.body) (kept.cells n s entry_here.1)
 
-  entries_are : fs ≡ set_value (is_at (nat_cmp n)) es (slot_after edit s)
-  entries_are = changed s slot_here.1
+  entries_are : fs ≡ set_value (is_at (nat_cmp n)) es (entry_after edit s)
+  entries_are = changed s entry_here.1
 
   document_is : document_of fs focus used ≡ after
   document_is = λ i. record { nodes = nodes i; focus = focus; used = used }
     where
       nodes : nodes_of fs ≡ after.nodes
       nodes =
-          ap nodes_of entries_are ∙ nodes_of-set_value (is_at (nat_cmp n)) es (slot_after edit s)
-          ∙ (λ i. set_value (is_at (nat_cmp n)) (nodes_of es) (record { body = body_after edit (body_was i); children = children_found es focus used d n refl s (sym slot_here.1) i }))
+          ap nodes_of entries_are ∙ nodes_of-set_value (is_at (nat_cmp n)) es (entry_after edit s)
+          ∙ (λ i. set_value (is_at (nat_cmp n)) (nodes_of es) (record { body = body_after edit (body_was i); children = children_found es focus used d n refl s (sym entry_here.1) i }))
 
-  cells_are : (q : ℕ) (o : Slot) → slot_at fs q ≡ Some o → o.cell ≡ cell_of after q
-  cells_are q o found = go (finds n q) refl (sym (ap (λ x. slot_at x q) entries_are ∙ lookup-set_value_at q n (slot_after edit s) es (ap is_some slot_here.1)) ∙ found)
+  cells_are : (q : ℕ) (o : NodeEntry) → entry_at fs q ≡ Some o → o.cell ≡ cell_of after q
+  cells_are q o found = go (finds n q) refl (sym (ap (λ x. entry_at x q) entries_are ∙ lookup-set_value_at q n (entry_after edit s) es (ap is_some entry_here.1)) ∙ found)
     where
-      go : (x : Bool) → finds n q ≡ x → cond x (Some (slot_after edit s)) (slot_at es q) ≡ Some o → o.cell ≡ cell_of after q
+      go : (x : Bool) → finds n q ≡ x → cond x (Some (entry_after edit s)) (entry_at es q) ≡ Some o → o.cell ≡ cell_of after q
       go true same found =
-          ap (λ (x : Slot). x.cell) (sym (same_Some (slot_after edit s) o found))
-          ∙ ap (λ (c : Cell). record c { body = body_after edit c.body }) (kept.cells n s slot_here.1)
+          ap (λ (x : NodeEntry). x.cell) (sym (same_Some (entry_after edit s) o found))
+          ∙ ap (λ (c : Cell). record c { body = body_after edit c.body }) (kept.cells n s entry_here.1)
           ∙ cell_here d n b there (kind_stays edit (body d n)) ∙ ap (cell_of after) (found_is n q same)
       go false apart found = kept.cells q o found ∙ cell_apart d n b there (kind_stays edit (body d n)) q apart
 
@@ -164,11 +164,11 @@ module _ (es : List (ℕ × Slot)) (focus : Option ℕ) (used : List ℕ) (kept 
   })
 
 -- the same, by what the code knows
-module _ (es : List (ℕ × Slot)) (focus : Option ℕ) (used : List ℕ) (kept : IsKept (document_of es focus used) es) (now : Document) (view : document_of es focus used ≡ now) (n : ℕ) (there : has now n ≡ true) where
-  pub amended_there : is_some (slot_at es n) ≡ true
+module _ (es : List (ℕ × NodeEntry)) (focus : Option ℕ) (used : List ℕ) (kept : IsKept (document_of es focus used) es) (now : Document) (view : document_of es focus used ≡ now) (n : ℕ) (there : has now n ≡ true) where
+  pub amended_there : is_some (entry_at es n) ≡ true
   amended_there = has_is es focus used now n view ∙ there
 
-  module _ (edit : Edit) (short : is_too_long edit ≡ false) (right : has_wrong_runs edit (body now n) ≡ false) (near : EditKeepsBounds edit) (fs : List (ℕ × Slot)) (changed : (s : Slot) → slot_at es n ≡ Some s → fs ≡ set_value (is_at (nat_cmp n)) es (slot_after edit s)) where
+  module _ (edit : Edit) (short : is_too_long edit ≡ false) (right : has_wrong_runs edit (body now n) ≡ false) (near : EditKeepsBounds edit) (fs : List (ℕ × NodeEntry)) (changed : (s : NodeEntry) → entry_at es n ≡ Some s → fs ≡ set_value (is_at (nat_cmp n)) es (entry_after edit s)) where
     there_here : has (document_of es focus used) n ≡ true
     there_here = ap (λ d. has d n) view ∙ there
 

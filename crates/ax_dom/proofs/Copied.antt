@@ -14,12 +14,12 @@ use Rattle.ax_base.specs.Trees.{IsTree}
 use Rattle.ax_base.proofs.Lookups.{finds_is, found_is, lookup-insert_entry, keys-insert_entry, rising-insert_key}
 use Rattle.ax_base.proofs.Places.{has_children}
 use Rattle.ax_base.proofs.SameLookups.{same_lookups}
-use Rattle.ax_dom.specs.declared.cell.Slot.{Slot}
-use Rattle.ax_dom.specs.Copies.{AreCopiedAt, with_slot}
-use Rattle.ax_dom.specs.Slots.{slot_at, node_of, document_of, IsKept}
+use Rattle.ax_dom.specs.declared.cell.NodeEntry.{NodeEntry}
+use Rattle.ax_dom.specs.Copies.{AreCopiedAt, with_entry}
+use Rattle.ax_dom.specs.NodeMaps.{entry_at, node_of, document_of, IsKept}
 use Rattle.ax_dom.specs.Subtrees.{subtree}
 use Rattle.ax_dom.proofs.Kept.{has_is}
-use Rattle.ax_dom.proofs.MovedSlots.{list_any_member}
+use Rattle.ax_dom.proofs.MovedEntries.{list_any_member}
 use Rattle.ax_dom.proofs.Subtrees.{subtree_has, within_child}
 
 -- every node is below the root
@@ -34,40 +34,40 @@ in_order d t (suc l) n low there = elim (eqb_tells n root) [
 ]
 
 -- none is copied yet
-pub none_copied : (es copies : List (ℕ × Slot)) (xs : List ℕ) → copies ≡ [] → AreCopiedAt es copies (take 0 xs)
+pub none_copied : (es copies : List (ℕ × NodeEntry)) (xs : List ℕ) → copies ≡ [] → AreCopiedAt es copies (take 0 xs)
 none_copied es copies xs none = subst (λ fs. AreCopiedAt es fs (take 0 xs)) (sym none) (record { rising = λ k low. absurd (omega arith); found = λ q. refl })
 
-module _ (es copies : List (ℕ × Slot)) (xs : List ℕ) (i x : ℕ) (low : i < length xs) (is : x ≡ get_or xs i x) (so_far : AreCopiedAt es copies (take i xs)) where
+module _ (es copies : List (ℕ × NodeEntry)) (xs : List ℕ) (i x : ℕ) (low : i < length xs) (is : x ≡ get_or xs i x) (so_far : AreCopiedAt es copies (take i xs)) where
   asked : (q : ℕ) → list_any (nat_eq q) (take (i + 1) xs) ≡ (list_any (nat_eq q) (take i xs) || nat_eq q x)
   asked q = list_any_more (nat_eq q) xs i 0 low ∙ ap (λ y. list_any (nat_eq q) (take i xs) || nat_eq q y) (sym (is ∙ get_or_default xs i x 0 low))
 
-  found_more : (o : Option Slot) → slot_at es x ≡ o → (q : ℕ) → slot_at (with_slot copies x o) q ≡ cond (list_any (nat_eq q) (take (i + 1) xs)) (slot_at es q) None
-  found_more None none q = so_far.found q ∙ go (list_any (nat_eq q) (take i xs)) (nat_eq q x) refl ∙ ap (λ b. cond b (slot_at es q) None) (sym (asked q))
+  found_more : (o : Option NodeEntry) → entry_at es x ≡ o → (q : ℕ) → entry_at (with_entry copies x o) q ≡ cond (list_any (nat_eq q) (take (i + 1) xs)) (entry_at es q) None
+  found_more None none q = so_far.found q ∙ go (list_any (nat_eq q) (take i xs)) (nat_eq q x) refl ∙ ap (λ b. cond b (entry_at es q) None) (sym (asked q))
     where
-      go : (a b : Bool) → nat_eq q x ≡ b → cond a (slot_at es q) None ≡ cond (a || b) (slot_at es q) None
+      go : (a b : Bool) → nat_eq q x ≡ b → cond a (entry_at es q) None ≡ cond (a || b) (entry_at es q) None
       go true b e = refl
       go false false e = refl
-      go false true e = sym (ap (slot_at es) (found_is q x (finds_is q x ∙ e)) ∙ none)
-  found_more (Some s) some q = lookup-insert_entry q x s copies ∙ ap (λ b. cond b (Some s) (slot_at copies q)) (finds_is q x) ∙ ap (cond (nat_eq q x) (Some s)) (so_far.found q)
-      ∙ go (list_any (nat_eq q) (take i xs)) (nat_eq q x) refl ∙ ap (λ b. cond b (slot_at es q) None) (sym (asked q))
+      go false true e = sym (ap (entry_at es) (found_is q x (finds_is q x ∙ e)) ∙ none)
+  found_more (Some s) some q = lookup-insert_entry q x s copies ∙ ap (λ b. cond b (Some s) (entry_at copies q)) (finds_is q x) ∙ ap (cond (nat_eq q x) (Some s)) (so_far.found q)
+      ∙ go (list_any (nat_eq q) (take i xs)) (nat_eq q x) refl ∙ ap (λ b. cond b (entry_at es q) None) (sym (asked q))
     where
-      go : (a b : Bool) → nat_eq q x ≡ b → cond b (Some s) (cond a (slot_at es q) None) ≡ cond (a || b) (slot_at es q) None
+      go : (a b : Bool) → nat_eq q x ≡ b → cond b (Some s) (cond a (entry_at es q) None) ≡ cond (a || b) (entry_at es q) None
       go true false e = refl
       go false false e = refl
-      go true true e = sym (ap (slot_at es) (found_is q x (finds_is q x ∙ e)) ∙ some)
-      go false true e = sym (ap (slot_at es) (found_is q x (finds_is q x ∙ e)) ∙ some)
+      go true true e = sym (ap (entry_at es) (found_is q x (finds_is q x ∙ e)) ∙ some)
+      go false true e = sym (ap (entry_at es) (found_is q x (finds_is q x ∙ e)) ∙ some)
 
-  rising_more : (o : Option Slot) → IsStrictlyIncreasing (keys_of (with_slot copies x o))
+  rising_more : (o : Option NodeEntry) → IsStrictlyIncreasing (keys_of (with_entry copies x o))
   rising_more None = so_far.rising
   rising_more (Some s) = subst IsStrictlyIncreasing (sym (keys-insert_entry copies x s)) (rising-insert_key x (keys_of copies) so_far.rising)
 
-  pub one_copied : (new : List (ℕ × Slot)) → new ≡ with_slot copies x (slot_at es x) → AreCopiedAt es new (take (i + 1) xs)
-  one_copied new adds = subst (λ fs. AreCopiedAt es fs (take (i + 1) xs)) (sym adds) (record { rising = rising_more (slot_at es x); found = found_more (slot_at es x) refl })
+  pub one_copied : (new : List (ℕ × NodeEntry)) → new ≡ with_entry copies x (entry_at es x) → AreCopiedAt es new (take (i + 1) xs)
+  one_copied new adds = subst (λ fs. AreCopiedAt es fs (take (i + 1) xs)) (sym adds) (record { rising = rising_more (entry_at es x); found = found_more (entry_at es x) refl })
 
-pub all_copied : (es copies : List (ℕ × Slot)) (xs : List ℕ) (i : ℕ) → length xs ≤ i → AreCopiedAt es copies (take i xs) → AreCopiedAt es copies xs
+pub all_copied : (es copies : List (ℕ × NodeEntry)) (xs : List ℕ) (i : ℕ) → length xs ≤ i → AreCopiedAt es copies (take i xs) → AreCopiedAt es copies xs
 all_copied es copies xs i past so_far = subst (AreCopiedAt es copies) (take_all i xs past) so_far
 
-module _ (es : List (ℕ × Slot)) (focus : Option ℕ) (used : List ℕ) (kept : IsKept (document_of es focus used) es) (d : Document) (view : document_of es focus used ≡ d) (copies : List (ℕ × Slot)) (xs : List ℕ) (all : xs ≡ subtree d root) (copied : AreCopiedAt es copies xs) where
+module _ (es : List (ℕ × NodeEntry)) (focus : Option ℕ) (used : List ℕ) (kept : IsKept (document_of es focus used) es) (d : Document) (view : document_of es focus used ≡ d) (copies : List (ℕ × NodeEntry)) (xs : List ℕ) (all : xs ≡ subtree d root) (copied : AreCopiedAt es copies xs) where
   tree : IsTree d
   tree = subst IsTree view kept.tree
 
@@ -78,20 +78,20 @@ module _ (es : List (ℕ × Slot)) (focus : Option ℕ) (used : List ℕ) (kept 
       go true on = refl
       go false off = absurd (false≢true (sym (list_any_member (nat_eq q) xs q (subst (λ ys. Contains ys q) (sym all) (in_order d tree (tree.level q) q (omega arith) there)) off) ∙ eq-eqb q q refl))
 
-  found_same : (q : ℕ) → slot_at copies q ≡ slot_at es q
+  found_same : (q : ℕ) → entry_at copies q ≡ entry_at es q
   found_same q = copied.found q ∙ go (has d q) refl
     where
-      missing : (o : Option Slot) → is_some o ≡ false → o ≡ None
+      missing : (o : Option NodeEntry) → is_some o ≡ false → o ≡ None
       missing None off = refl
       missing (Some s) off = cc
 
-      either : (b : Bool) → slot_at es q ≡ None → cond b (slot_at es q) None ≡ slot_at es q
+      either : (b : Bool) → entry_at es q ≡ None → cond b (entry_at es q) None ≡ entry_at es q
       either true none = refl
       either false none = sym none
 
-      go : (b : Bool) → has d q ≡ b → cond (list_any (nat_eq q) xs) (slot_at es q) None ≡ slot_at es q
-      go true there = ap (λ b. cond b (slot_at es q) None) (listed q there)
-      go false lost = either (list_any (nat_eq q) xs) (missing (slot_at es q) (has_is es focus used d q view ∙ lost))
+      go : (b : Bool) → has d q ≡ b → cond (list_any (nat_eq q) xs) (entry_at es q) None ≡ entry_at es q
+      go true there = ap (λ b. cond b (entry_at es q) None) (listed q there)
+      go false lost = either (list_any (nat_eq q) xs) (missing (entry_at es q) (has_is es focus used d q view ∙ lost))
 
   pub copies_same : copies ≡ es
   copies_same = same_lookups copies es copied.rising (subst IsStrictlyIncreasing (keys_of-map_values node_of es) kept.tree.rising) found_same

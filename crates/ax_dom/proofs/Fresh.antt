@@ -16,8 +16,8 @@ use Rattle.ax_base.proofs.Lookups.{finds, found_is}
 use Rattle.ax_base.proofs.Repeats.{no_repeats-nil}
 use Rattle.ax_base.specs.Trees.{HasNoRepeats}
 use Rattle.ax_dom.specs.declared.cell.Cell.{Cell}
-use Rattle.ax_dom.specs.declared.cell.Slot.{Slot}
-use Rattle.ax_dom.specs.Slots.{cell_of, document_of, IsKept}
+use Rattle.ax_dom.specs.declared.cell.NodeEntry.{NodeEntry}
+use Rattle.ax_dom.specs.NodeMaps.{cell_of, document_of, IsKept}
 use Rattle.ax_dom.proofs.Bounded.{no_runs_within}
 use Rattle.ax_dom.proofs.Fitting.{nothing_fits}
 
@@ -25,7 +25,7 @@ module _ (b : Body) (element : is_text b ≡ false) (near : HasRectsWithin b) wh
   abbrev cell : Cell
   cell = record { id = 1; parent = None; depth = 0; body = b }
 
-  abbrev es : List (ℕ × Slot)
+  abbrev es : List (ℕ × NodeEntry)
   es = (1, record { cell = cell; children = [] }) ∷ []
 
   abbrev d : Document
@@ -92,12 +92,12 @@ module _ (b : Body) (element : is_text b ≡ false) (near : HasRectsWithin b) wh
     marked = λ n there top. absurd (top (only_root n there));
   }
     where
-      at_root : (n : ℕ) (s : Slot) (x : Bool) → finds n 1 ≡ x → cond x (Some (record { cell = cell; children = [] })) None ≡ Some s → s.cell ≡ cell_of d n
-      at_root n s true at there = let same : record { cell = cell; children = [] } ≡ s = same_Some _ s there in ap (λ (y : Slot). y.cell) (sym same) ∙ ap (cell_of d) (sym (found_is n 1 at))
+      at_root : (n : ℕ) (s : NodeEntry) (x : Bool) → finds n 1 ≡ x → cond x (Some (record { cell = cell; children = [] })) None ≡ Some s → s.cell ≡ cell_of d n
+      at_root n s true at there = let same : record { cell = cell; children = [] } ≡ s = same_Some _ s there in ap (λ (y : NodeEntry). y.cell) (sym same) ∙ ap (cell_of d) (sym (found_is n 1 at))
       at_root n s false at there = cc
 
 -- the same of the entries that one insert into an empty map leaves
-pub new_kept : (fs gs : List (ℕ × Slot)) (b : Body) (cs used : List ℕ) → is_text b ≡ false → HasRectsWithin b → fs ≡ insert_entry nat_cmp gs 1 (record { cell = record { id = 1; parent = None; depth = 0; body = b }; children = cs }) → gs ≡ [] → cs ≡ [] → used ≡ []
+pub new_kept : (fs gs : List (ℕ × NodeEntry)) (b : Body) (cs used : List ℕ) → is_text b ≡ false → HasRectsWithin b → fs ≡ insert_entry nat_cmp gs 1 (record { cell = record { id = 1; parent = None; depth = 0; body = b }; children = cs }) → gs ≡ [] → cs ≡ [] → used ≡ []
     → IsKept (document_of fs None used) fs
 new_kept fs gs b cs used element near added empty none unused =
     let all : fs ≡ es b element near = added ∙ (λ i. insert_entry nat_cmp (empty i) 1 (record { cell = record { id = 1; parent = None; depth = 0; body = b }; children = none i })) in

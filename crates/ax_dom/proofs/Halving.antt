@@ -12,7 +12,7 @@ use Rattle.std.proofs.lemmas.List.{get_or_default}
 use Rattle.std.proofs.lemmas.Map.Views.{Contains-from_any}
 use Rattle.ax_base.proofs.Filled.{less_is, greater_is}
 use Rattle.ax_dom.specs.Among.{is_in}
-use Rattle.ax_dom.proofs.MovedSlots.{list_any_member}
+use Rattle.ax_dom.proofs.MovedEntries.{list_any_member}
 
 -- where an id can be: all before are below it, and none after is
 pub record Halved (xs : List ℕ) (id from past : ℕ) : Type 0 where

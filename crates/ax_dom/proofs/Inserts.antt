@@ -19,7 +19,7 @@ use Rattle.ax_base.specs.Trees.{IsTree, HasNoRepeats}
 use Rattle.ax_base.proofs.Places.{has_children, parent-child, parent-root, depth-level}
 use Rattle.ax_base.proofs.Lookups.{finds, finds_same, finds_tells, found_is, lookup-insert_entry, lookup-set_value_at, keys-insert_entry, rising-insert_key}
 use Rattle.ax_base.proofs.Repeats.{no_repeats-nil}
-use Rattle.ax_dom.specs.Slots.{cell_of}
+use Rattle.ax_dom.specs.NodeMaps.{cell_of}
 use Rattle.ax_dom.specs.Places.{placed}
 use Rattle.ax_dom.specs.Changes.{with_children, inserted}
 use Rattle.ax_dom.proofs.Counted.{length-put}

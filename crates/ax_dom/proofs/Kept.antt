@@ -13,25 +13,25 @@ use Rattle.ax_base.specs.declared.body.Body.TheVariants.{Words}
 use Rattle.ax_base.specs.Document.{Document, Node, node, has, children, parent, depth, body, is_text, ids, lineage}
 use Rattle.ax_base.specs.Trees.{IsTree}
 use Rattle.ax_base.proofs.Places.{parent-child, parent-unknown}
-use Rattle.ax_dom.specs.declared.cell.Slot.{Slot}
-use Rattle.ax_dom.specs.Slots.{cell_of, cell_at, slot_at, node_of, document_of, IsKept}
+use Rattle.ax_dom.specs.declared.cell.NodeEntry.{NodeEntry}
+use Rattle.ax_dom.specs.NodeMaps.{cell_of, cell_at, entry_at, node_of, document_of, IsKept}
 use Rattle.ax_dom.specs.Refusals.{is_place, length_of}
 
 no_characters : length_of (Words [] []) ≡ 0
 unfolding chars
 no_characters = refl
 
-module _ (es : List (ℕ × Slot)) (focus : Option ℕ) (used : List ℕ) where
+module _ (es : List (ℕ × NodeEntry)) (focus : Option ℕ) (used : List ℕ) where
   abbrev here : Document
   here = document_of es focus used
 
-  pub node_there : (n : ℕ) → node here n ≡ option_map node_of (slot_at es n)
+  pub node_there : (n : ℕ) → node here n ≡ option_map node_of (entry_at es n)
   node_there n = lookup-map_values node_of (is_at (nat_cmp n)) es
 
-  node_found : (n : ℕ) (s : Slot) → Some s ≡ slot_at es n → node here n ≡ Some (node_of s)
+  node_found : (n : ℕ) (s : NodeEntry) → Some s ≡ entry_at es n → node here n ≡ Some (node_of s)
   node_found n s found = node_there n ∙ ap (option_map node_of) (sym found)
 
-  node_missing : (n : ℕ) → None ≡ slot_at es n → node here n ≡ None
+  node_missing : (n : ℕ) → None ≡ entry_at es n → node here n ≡ None
   node_missing n none = node_there n ∙ ap (option_map node_of) (sym none)
 
   module _ (d : Document) (n : ℕ) (view : here ≡ d) where
@@ -39,37 +39,37 @@ module _ (es : List (ℕ × Slot)) (focus : Option ℕ) (used : List ℕ) where
     is_some-map f None = refl
     is_some-map f (Some x) = refl
 
-    pub has_is : is_some (slot_at es n) ≡ has d n
-    has_is = is_some-map node_of (slot_at es n) ∙ ap is_some (sym (node_there n)) ∙ ap (λ d. has d n) view
+    pub has_is : is_some (entry_at es n) ≡ has d n
+    has_is = is_some-map node_of (entry_at es n) ∙ ap is_some (sym (node_there n)) ∙ ap (λ d. has d n) view
 
-    pub cell_found : (s : Slot) → Some s ≡ slot_at es n → IsKept here es → Some s.cell ≡ cell_at d n
+    pub cell_found : (s : NodeEntry) → Some s ≡ entry_at es n → IsKept here es → Some s.cell ≡ cell_at d n
     cell_found s found kept = ap (λ c. Some c) (kept.cells n s (sym found)) ∙ ap (λ o. cond (is_some o) (Some (cell_of here n)) None) (sym (node_found n s found)) ∙ ap (λ d. cell_at d n) view
 
-    pub cell_missing : None ≡ slot_at es n → None ≡ cell_at d n
+    pub cell_missing : None ≡ entry_at es n → None ≡ cell_at d n
     cell_missing none = ap (λ o. cond (is_some o) (Some (cell_of here n)) None) (sym (node_missing n none)) ∙ ap (λ d. cell_at d n) view
 
-    pub children_found : (s : Slot) → Some s ≡ slot_at es n → s.children ≡ children d n
+    pub children_found : (s : NodeEntry) → Some s ≡ entry_at es n → s.children ≡ children d n
     children_found s found = ap (λ o. option_map_or (λ (e : Node). e.children) o []) (sym (node_found n s found)) ∙ ap (λ d. children d n) view
 
-    pub children_missing : None ≡ slot_at es n → [] ≡ children d n
+    pub children_missing : None ≡ entry_at es n → [] ≡ children d n
     children_missing none = ap (λ o. option_map_or (λ (e : Node). e.children) o []) (sym (node_missing n none)) ∙ ap (λ d. children d n) view
 
-    pub body_missing : None ≡ slot_at es n → true ≡ is_text (body d n)
+    pub body_missing : None ≡ entry_at es n → true ≡ is_text (body d n)
     body_missing none = ap (λ o. is_text (option_map_or (λ (e : Node). e.body) o (Words [] []))) (sym (node_missing n none)) ∙ ap (λ d. is_text (body d n)) view
 
-    pub length_missing : None ≡ slot_at es n → 0 ≡ length_of (body d n)
+    pub length_missing : None ≡ entry_at es n → 0 ≡ length_of (body d n)
     length_missing none = sym no_characters ∙ ap (λ o. length_of (option_map_or (λ (e : Node). e.body) o (Words [] []))) (sym (node_missing n none)) ∙ ap (λ d. length_of (body d n)) view
 
-    parent_none : IsTree here → None ≡ slot_at es n → parent here n ≡ None
+    parent_none : IsTree here → None ≡ entry_at es n → parent here n ≡ None
     parent_none tree none = parent-unknown here tree n (ap is_some (node_missing n none))
 
-    pub parent_missing : IsTree here → None ≡ slot_at es n → None ≡ parent d n
+    pub parent_missing : IsTree here → None ≡ entry_at es n → None ≡ parent d n
     parent_missing tree none = sym (parent_none tree none) ∙ ap (λ d. parent d n) view
 
-    pub depth_missing : IsTree here → None ≡ slot_at es n → 0 ≡ depth d n
+    pub depth_missing : IsTree here → None ≡ entry_at es n → 0 ≡ depth d n
     depth_missing tree none = ap (λ o. length (option_map_or (lineage here) o [])) (sym (parent_none tree none)) ∙ ap (λ d. depth d n) view
 
-    pub not_missing : None ≡ slot_at es n → has d n ≡ true → ⊥
+    pub not_missing : None ≡ entry_at es n → has d n ≡ true → ⊥
     not_missing none there = false≢true (ap is_some none ∙ has_is ∙ there)
 
 -- what is found passes the test

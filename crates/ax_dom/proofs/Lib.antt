@@ -11,9 +11,9 @@ pub mod Agreement
 pub mod SameEntries
 pub mod Rewrites
 pub mod Removed
-pub mod RemovedSlots
+pub mod RemovedEntries
 pub mod Moved
-pub mod MovedSlots
+pub mod MovedEntries
 pub mod Few
 pub mod Inserts
 pub mod Entries

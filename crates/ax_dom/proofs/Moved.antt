@@ -16,7 +16,7 @@ use Rattle.ax_base.specs.Texts.{IsFitting}
 use Rattle.ax_base.specs.Trees.{IsTree, HasNoRepeats}
 use Rattle.ax_base.proofs.Lookups.{finds, finds_same, found_is, lookup-set_value_at}
 use Rattle.ax_base.proofs.Places.{parent-child, depth-level}
-use Rattle.ax_dom.specs.Slots.{cell_of}
+use Rattle.ax_dom.specs.NodeMaps.{cell_of}
 use Rattle.ax_dom.specs.Places.{placed, without}
 use Rattle.ax_dom.specs.Subtrees.{subtree, is_within}
 use Rattle.ax_dom.specs.Changes.{unhung_from, moved}

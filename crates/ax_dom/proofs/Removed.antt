@@ -22,7 +22,7 @@ use Rattle.ax_base.specs.Trees.{IsTree, HasNoRepeats}
 use Rattle.ax_base.proofs.Membership.{fewer_pass}
 use Rattle.ax_base.proofs.Lookups.{found_is}
 use Rattle.ax_base.proofs.Repeats.{no_repeats-nil}
-use Rattle.ax_dom.specs.Slots.{cell_of}
+use Rattle.ax_dom.specs.NodeMaps.{cell_of}
 use Rattle.ax_dom.specs.Places.{without}
 use Rattle.ax_dom.specs.Subtrees.{subtree, is_within}
 use Rattle.ax_dom.specs.Changes.{unhung, focus_without, removed}

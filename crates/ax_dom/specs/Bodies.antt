@@ -6,7 +6,7 @@ use Rattle.ax_base.specs.declared.rect.Rect.{Rect}
 use Rattle.ax_base.specs.declared.rect.Run.{Run}
 use Rattle.ax_base.specs.Characters.{Chars}
 use Rattle.ax_base.specs.Attributes.{with_value, without_name}
-use Rattle.ax_dom.specs.declared.cell.Slot.{Slot}
+use Rattle.ax_dom.specs.declared.cell.NodeEntry.{NodeEntry}
 use Rattle.ax_dom.specs.declared.edit.Edit.{Edit}
 use Rattle.ax_dom.specs.declared.edit.Edit.TheVariants.{Chars as NewChars, Set, Unset, SetRuns, Frame}
 
@@ -44,6 +44,6 @@ body_after (SetRuns id new) b = with_runs new b
 body_after (Frame id new) b = with_frame new b
 body_after _ b = b
 
--- the slot after such an edit
-abbrev pub slot_after : Edit → Slot → Slot
-slot_after e s = record s { cell = record s.cell { body = body_after e s.cell.body } }
+-- the entry after such an edit
+abbrev pub entry_after : Edit → NodeEntry → NodeEntry
+entry_after e s = record s { cell = record s.cell { body = body_after e s.cell.body } }

@@ -1,6 +1,6 @@
 pub mod Places
 pub mod Used
-pub mod Slots
+pub mod NodeMaps
 pub mod Copies
 pub mod Subtrees
 pub mod Among

@@ -104,14 +104,14 @@ removes_root (Remove id) = id == root
 removes_root _ = false
 
 -- whether some node would have a depth over 64, if n hung on `into`: it is as far below n as it was
-abbrev pub is_too_high : Document → ℕ → ℕ → Bool
-is_too_high d n into = list_any (λ m. nat_lt MAX_DEPTH (depth d into + 1 + (depth d m - depth d n))) (subtree d n)
+abbrev pub exceeds_depth : Document → ℕ → ℕ → Bool
+exceeds_depth d n into = list_any (λ m. nat_lt MAX_DEPTH (depth d into + 1 + (depth d m - depth d n))) (subtree d n)
 
 -- some node would have a depth over 64
 abbrev pub goes_too_deep : Document → Edit → Bool
 goes_too_deep d (InsertElement id into before tag attrs) = nat_lt MAX_DEPTH (depth d into + 1)
 goes_too_deep d (InsertText id into before new) = nat_lt MAX_DEPTH (depth d into + 1)
-goes_too_deep d (Move id into before) = is_too_high d id into
+goes_too_deep d (Move id into before) = exceeds_depth d id into
 goes_too_deep d _ = false
 
 -- 65,536 nodes were inserted before
@@ -184,4 +184,4 @@ pub record MayMove (d : Document) (id into : ℕ) (before : Option ℕ) : Type 0
   pub place : is_place d into before ≡ true
   pub element : is_text (body d into) ≡ false
   pub out : list_any (nat_eq id) (lineage d into) ≡ false
-  pub low : is_too_high d id into ≡ false
+  pub low : exceeds_depth d id into ≡ false

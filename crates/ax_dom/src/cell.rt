@@ -20,7 +20,7 @@ pub struct Cell {
 
 /// A node and its children, in order.
 #[derive(Drop)]
-pub struct Slot {
+pub struct NodeEntry {
     pub cell: Cell,
     pub children: Ids,
 }
@@ -39,12 +39,12 @@ impl Cell {
     }
 }
 
-impl Slot {
+impl NodeEntry {
     /// An equal node with equal children.
-    pub fn copy(&self, alloc: Global) -> Result<Slot, NoMemory>
+    pub fn copy(&self, alloc: Global) -> Result<NodeEntry, NoMemory>
         ensures { IfOk result (λ s. s ≡ self.now) }
     {
-        Ok(Slot {
+        Ok(NodeEntry {
             cell: self.cell.copy(alloc)?,
             children: self.children.copy(alloc)?,
         })

@@ -7,15 +7,15 @@ mod subtrees;
 ghost use Rattle.std.specs.Prelude.{◌≡◌, ◌+◌, IfOk, OnOk, OnErr, IfErr, if◌then◌else◌, Some, None, option_copied};
 ghost use Rattle.ax_base.specs.Document.{children, has, parent};
 ghost use Rattle.ax_base.specs.Trees.{IsTree};
-ghost use Rattle.ax_dom.specs.Slots.{cell_at};
+ghost use Rattle.ax_dom.specs.NodeMaps.{cell_at};
 ghost use Rattle.ax_dom.specs.Bounds.{EditKeepsBounds};
 ghost use Rattle.ax_dom.specs.Changes.{new_document, edited};
 ghost use Rattle.ax_dom.specs.Refusals.{edit_cause, is_no_memory};
 
 use crate::cause::EditCause;
-use crate::cell::{Cell, Slot};
+use crate::cell::{Cell, NodeEntry};
 use crate::edit::Edit;
-use crate::slots::Slots;
+use crate::node_map::NodeMap;
 use crate::used::UsedIds;
 use ax_base::{Attrs, Body, Ids, NoMemory, ObjId, Rect, Steps, Text};
 use std::alloc::Global;
@@ -25,20 +25,20 @@ use std::sync::ledger::Ledger;
 /// The document. A clause sees it as its nodes, the focused node and the ids ever inserted.
 #[derive(Drop)]
 pub struct Dom {
-    slots: Slots,
+    entries: NodeMap,
     focus: Option<ObjId>,
     used: UsedIds,
 }
 
 impl Model for Dom {
     ghost use Rattle.ax_base.specs.Document.{Document};
-    ghost use Rattle.ax_dom.specs.Slots.{document_of, IsKept};
+    ghost use Rattle.ax_dom.specs.NodeMaps.{document_of, IsKept};
 
     ghost Value = { Document };
 
-    ghost view = { λ a. document_of a.slots a.focus a.used };
+    ghost view = { λ a. document_of a.entries a.focus a.used };
 
-    ghost invariant = { λ a. IsKept (document_of a.slots a.focus a.used) a.slots };
+    ghost invariant = { λ a. IsKept (document_of a.entries a.focus a.used) a.entries };
 }
 
 impl Dom {
@@ -57,10 +57,10 @@ impl Dom {
             },
         };
         let children = Ids::new(alloc);
-        let mut slots = Slots::new(alloc);
-        slots.add(ObjId::ROOT, Slot { cell, children })?;
+        let mut entries = NodeMap::new(alloc);
+        entries.add(ObjId::ROOT, NodeEntry { cell, children })?;
         Ok(Dom {
-            slots,
+            entries,
             focus: None,
             used: UsedIds::new(alloc),
         })
@@ -73,8 +73,8 @@ impl Dom {
         ensures counted { steps.new ≡ steps.old + 1 }
     {
         steps.tick();
-        match self.slots.get(id) {
-            Some(slot) => Some(&slot.cell),
+        match self.entries.get(id) {
+            Some(entry) => Some(&entry.cell),
             None => None,
         }
     }
@@ -102,7 +102,7 @@ impl Dom {
     pub fn has(&self, id: ObjId) -> bool
         ensures { result ≡ has self.now id }
     {
-        self.slots.has(id)
+        self.entries.has(id)
     }
 
     /// The focused node.
@@ -134,8 +134,8 @@ impl Dom {
         ensures value { result ≡ parent self.now id }
         ensures tree { IsTree self.now }
     {
-        match self.slots.get(id) {
-            Some(slot) => slot.cell.parent,
+        match self.entries.get(id) {
+            Some(entry) => entry.cell.parent,
             None => None,
         }
     }

@@ -6,8 +6,8 @@ mod cause;
 mod cell;
 mod dom;
 mod edit;
+mod node_map;
 mod rising;
-mod slots;
 mod used;
 
 pub use ax_base::Body;

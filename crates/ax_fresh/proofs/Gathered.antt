@@ -11,7 +11,7 @@ use Rattle.ax_base.specs.declared.role.Role.{Role}
 use Rattle.ax_base.specs.Document.{Document, has, root, depth, body, spot, children, IsChild}
 use Rattle.ax_base.specs.Trees.{IsTree}
 use Rattle.ax_base.specs.declared.states.Live.{Live}
-use Rattle.ax_base.specs.Roles.{role_of, hides, is_pruning, ignored}
+use Rattle.ax_base.specs.Roles.{role_of, hides, children_presentational, ignored}
 use Rattle.ax_base.specs.States.{live_by, sets_live}
 use Rattle.ax_base.specs.Context.{is_out, is_shut, live_at}
 use Rattle.ax_base.specs.Kids.{kids, taken, objects}
@@ -21,10 +21,10 @@ use Rattle.ax_base.proofs.Places.{depth-level, has_children}
 use Rattle.ax_base.proofs.Joins.{Contains-flat_map}
 use Rattle.ax_base.proofs.Objects.{kids_are_objects}
 use Rattle.ax_dom.specs.declared.cell.Cell.{Cell}
-use Rattle.ax_dom.specs.Slots.{cell_of, cell_at}
+use Rattle.ax_dom.specs.NodeMaps.{cell_of, cell_at}
 use Rattle.ax_record.specs.declared.record.Record.{Record}
-use Rattle.ax_record.specs.Records.{record_of, holder}
-use Rattle.ax_record.proofs.TreeOf.{holder_is}
+use Rattle.ax_record.specs.Records.{record_of, object_parent}
+use Rattle.ax_record.proofs.TreeOf.{object_parent_is}
 use Rattle.ax_fresh.specs.Gathering.{with_records, put_order, AreKidsOf}
 use Rattle.ax_fresh.proofs.Put.{with_records-append, put_order-kids}
 
@@ -72,9 +72,9 @@ module _ (d : Document) (t : IsTree d) where
       ap (λ b. cond b [] (cond (ignored (spot d c)) (kids d c) (c ∷ []))) (out-child d t n c child ∙ ap (λ b. hides (spot d c) || b) shut ∙ or-true (hides (spot d c))))
 
   -- a visible node is shut where its role prunes
-  pub shut_by_role : (n : ℕ) (r : Role) (b : Body) → has d n ≡ true → b ≡ body d n → r ≡ role_of (n == root) b → is_out d n ≡ false → is_pruning r ≡ is_shut d n
+  pub shut_by_role : (n : ℕ) (r : Role) (b : Body) → has d n ≡ true → b ≡ body d n → r ≡ role_of (n == root) b → is_out d n ≡ false → children_presentational r ≡ is_shut d n
   shut_by_role n r b there is_body is_role visible =
-      ap is_pruning (is_role ∙ ap (role_of (n == root)) is_body) ∙ sym (shut-prunes d t n there visible)
+      ap children_presentational (is_role ∙ ap (role_of (n == root)) is_body) ∙ sym (shut-prunes d t n there visible)
 
   -- a child of a node whose inside is shown is out where it hides
   pub out_by_itself : (n c : ℕ) → IsChild d n c → is_shut d n ≡ false → is_out d c ≡ hides (spot d c)
@@ -148,7 +148,7 @@ module _ (d : Document) (t : IsTree d) where
   -- what is known of a child that is shown, by its cell: it is an object, the cell is the document's, its role is by it, it is visible and has this live, and it hangs on `above`
   pub child_object : (above n : ℕ) (x : Cell) (r : Role) (skip : Bool) → x ≡ cell_of d n → r ≡ role_of (n == root) x.body → skip ≡ ignored (record { id = n; body = x.body }) → skip ≡ false
       → is_out d n ≡ false → (live_given : Live) → live_given ≡ live_at d n → AreKidsOf d above (taken d n)
-      → Contains (objects d) x.id × ((x ≡ cell_of d x.id) × ((r ≡ role_of (x.id == root) x.body) × ((is_out d x.id ≡ false) × ((live_given ≡ live_at d x.id) × (Some above ≡ holder d x.id)))))
+      → Contains (objects d) x.id × ((x ≡ cell_of d x.id) × ((r ≡ role_of (x.id == root) x.body) × ((is_out d x.id ≡ false) × ((live_given ≡ live_at d x.id) × (Some above ≡ object_parent d x.id)))))
   child_object above n x r skip cell is_role skips off visible live_given live_same (one, each) =
       let id_is : x.id ≡ n = ap (λ (y : Cell). y.id) cell in
       let gives : taken d n ≡ n ∷ [] = taken_self n x.body skip (ap (λ (y : Cell). y.body) cell) skips off visible in
@@ -162,7 +162,7 @@ module _ (d : Document) (t : IsTree d) where
               ap (is_out d) id_is ∙ visible,
               (
                 live_same ∙ ap (live_at d) (sym id_is),
-                sym (ap (holder d) id_is ∙ holder_is d t above n one kid),
+                sym (ap (object_parent d) id_is ∙ object_parent_is d t above n one kid),
               ),
             ),
           ),

@@ -7,10 +7,10 @@ ghost use Rattle.ax_base.specs.States.{states_by, level_by, live_by, value_by};
 ghost use Rattle.ax_base.specs.Context.{live_at};
 ghost use Rattle.ax_base.specs.Kids.{kids};
 ghost use Rattle.ax_base.specs.Rects.{HasRectsWithin};
-ghost use Rattle.ax_dom.specs.Slots.{cell_of};
+ghost use Rattle.ax_dom.specs.NodeMaps.{cell_of};
 ghost use Rattle.ax_fresh.specs.Contents.{record_by};
 ghost use Rattle.ax_names.specs.Sessions.{AreNamesOf};
-ghost use Rattle.ax_record.specs.Records.{record_of, holder, chars_of, runs_of};
+ghost use Rattle.ax_record.specs.Records.{record_of, object_parent, chars_of, runs_of};
 
 use crate::frames::frame_of;
 use ax_base::{Body, Ids, Live, NoMemory, ObjId, Role, Runs, States, Steps, Text};
@@ -37,7 +37,7 @@ pub fn record_of<L: Ledger>(
     requires cell { cell.now ≡ cell_of dom.now cell.now.id }
     requires role { role ≡ role_of (cell.now.id == root) cell.now.body }
     requires live { live ≡ live_at dom.now cell.now.id }
-    requires parent { parent ≡ holder dom.now cell.now.id }
+    requires parent { parent ≡ object_parent dom.now cell.now.id }
     requires kids { below ≡ kids dom.now cell.now.id }
     requires names { AreNamesOf dom.now names.old }
     ensures value { IfOk result (λ r. r ≡ record_of dom.now cell.now.id) }

@@ -22,7 +22,7 @@ pub struct RecordParts<'a> {
     pub cell: &'a Cell,
     /// What the object is.
     pub role: Role,
-    /// How soon a change in it is told.
+    /// How urgently changes in it are announced (`aria-live`).
     pub live: Live,
     /// The object on which it hangs, or `None` of the root.
     pub parent: Option<ObjId>,
@@ -95,7 +95,15 @@ impl RecordParts<'_> {
             name: self.name.copy(alloc)?,
             description: self.description.copy(alloc)?,
         };
-        record_called(alloc, self.cell, self.role, self.live, self.parent, below, called)
+        record_called(
+            alloc,
+            self.cell,
+            self.role,
+            self.live,
+            self.parent,
+            below,
+            called,
+        )
     }
 }
 

@@ -7,8 +7,8 @@ ghost use Rattle.ax_base.specs.Roles.{role_of, hides};
 ghost use Rattle.ax_base.specs.States.{sets_live};
 ghost use Rattle.ax_base.specs.Context.{is_out, is_shut, live_at};
 ghost use Rattle.ax_base.specs.Kids.{kids, taken, objects};
-ghost use Rattle.ax_dom.specs.Slots.{cell_of};
-ghost use Rattle.ax_record.specs.Records.{tree, holder};
+ghost use Rattle.ax_dom.specs.NodeMaps.{cell_of};
+ghost use Rattle.ax_record.specs.Records.{tree, object_parent};
 ghost use Rattle.ax_names.specs.Sessions.{AreNamesOf};
 ghost use Rattle.ax_fresh.specs.Gathering.{with_records, put_order, AreKidsOf};
 
@@ -78,7 +78,7 @@ fn put_object<L: Ledger>(
     requires role { role ≡ role_of (cell.now.id == root) cell.now.body }
     requires visible { is_out dom.now cell.now.id ≡ false }
     requires live { live ≡ live_at dom.now cell.now.id }
-    requires parent { parent ≡ holder dom.now cell.now.id }
+    requires parent { parent ≡ object_parent dom.now cell.now.id }
     requires names { AreNamesOf dom.now names.old }
     ensures records { OnOk result (records.new ≡ with_records dom.now records.old (put_order dom.now cell.now.id)) }
     ensures names { OnOk result (AreNamesOf dom.now names.new) }

@@ -12,7 +12,7 @@ use Rattle.ax_base.specs.Document.{Document, Node, node, body, order, target, ch
 use Rattle.ax_base.specs.Trees.{IsTree}
 use Rattle.ax_base.specs.AccessibleNames.{is_label_for}
 use Rattle.ax_base.proofs.Places.{find_none}
-use Rattle.ax_dom.specs.Slots.{cell_at}
+use Rattle.ax_dom.specs.NodeMaps.{cell_at}
 use Rattle.ax_dom.specs.Subtrees.{subtree}
 use Rattle.ax_dom.proofs.Subtrees.{subtree_unfolds}
 use Rattle.ax_names.specs.declared.targets.Targets.{Targets}

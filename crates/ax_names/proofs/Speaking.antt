@@ -11,7 +11,7 @@ use Rattle.ax_base.specs.Trees.{IsTree}
 use Rattle.ax_base.specs.Said.{said_by, embedded}
 use Rattle.ax_base.proofs.Places.{depth-level, has_children}
 use Rattle.ax_dom.specs.declared.cell.Cell.{Cell}
-use Rattle.ax_dom.specs.Slots.{cell_of, cell_at}
+use Rattle.ax_dom.specs.NodeMaps.{cell_of, cell_at}
 use Rattle.ax_names.specs.OwnTexts.{said_or, title_said, element_says}
 
 pub child_of : (d : Document) (n k x : ℕ) (xs : List ℕ) → xs ≡ children d n → k < length xs → x ≡ get_or xs k x → IsChild d n x

@@ -5,7 +5,7 @@ ghost use Rattle.ax_base.specs.Document.{root};
 ghost use Rattle.ax_base.specs.Roles.{role_of};
 ghost use Rattle.ax_base.specs.Values.{text_in};
 ghost use Rattle.ax_base.specs.AccessibleNames.{name_of, description_of};
-ghost use Rattle.ax_dom.specs.Slots.{cell_of};
+ghost use Rattle.ax_dom.specs.NodeMaps.{cell_of};
 ghost use Rattle.ax_names.specs.Pieces.{piece_of};
 ghost use Rattle.ax_names.specs.OwnTexts.{is_settled, described_from};
 ghost use Rattle.ax_names.specs.Sessions.{AreNamesOf, referred_by, named_by};

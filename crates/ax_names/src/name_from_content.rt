@@ -4,7 +4,7 @@ ghost use Rattle.ax_base.specs.Document.{has};
 ghost use Rattle.ax_base.specs.Trees.{IsTree};
 ghost use Rattle.ax_base.specs.Values.{text_in};
 ghost use Rattle.ax_base.specs.Said.{child_text};
-ghost use Rattle.ax_dom.specs.Slots.{cell_of};
+ghost use Rattle.ax_dom.specs.NodeMaps.{cell_of};
 ghost use Rattle.ax_names.specs.OwnTexts.{element_shows};
 ghost use Rattle.ax_names.specs.Scopes.{children_say};
 

@@ -10,7 +10,7 @@ use std::marker::Model;
 /// A text that is joined from many, flat and cut while it grows, since a name needs no more of it: the first 512 characters of the
 /// flat text, whether more follow, whether the text began with white space, and, where no more follow, whether it ended with it.
 ///
-/// Where a call has no memory left, the piece is of no more use.
+/// After `NoMemory` the piece must not be used again.
 #[derive(Drop)]
 pub struct Piece {
     words: Front,

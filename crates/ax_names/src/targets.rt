@@ -73,7 +73,7 @@ impl Targets {
     }
 }
 
-/// Keeps a node by a word, if there is one and none is kept by it.
+/// Inserts `node` under `word`, unless there is no word or the key is taken.
 fn keep_first(
     alloc: Global,
     kept: &mut HashMap<String, ObjId>,

@@ -16,7 +16,7 @@ use Rattle.ax_notice.specs.Notices.{notices_between, kind_notices}
 use Rattle.change_log.specs.Logs.{entry_after}
 use Rattle.story_check.specs.declared.story.PageLine.{PageLine}
 use Rattle.story_check.specs.declared.story.PageLine.TheVariants.{Flush}
-use Rattle.story_check.specs.Stories.{Script, cap}
+use Rattle.story_check.specs.Stories.{Story, cap}
 use Rattle.story_check.specs.Moments.{after_edits, after_flushes, document_at, tree_at}
 use Rattle.turn_word.specs.Views.{new_page}
 use Rattle.ax_port.specs.States.{PortsState, PageState, with_page, published_more}
@@ -35,7 +35,7 @@ cap_all zero t = refl
 cap_all (suc n) t = let next : 1 + n ≡ suc n = omega arith in ap (λ m. 1 + m) (cap_all n t) ∙ next
 
 -- all moments may be published at once
-pub quiet_cap : (s : Script) (n t k p : ℕ) → IsQuiet s n → k < n → p ≡ k → p + 1 ≤ cap s.page t
+pub quiet_cap : (s : Story) (n t k p : ℕ) → IsQuiet s n → k < n → p ≡ k → p + 1 ≤ cap s.page t
 quiet_cap s n t k p q h e = let is : cap s.page t ≡ n = ap (λ l. cap l t) q.page ∙ cap_all n t in omega arith
 
 stays : (d : Document) (n k : ℕ) → after_flushes d (flush_lines n) k ≡ d
@@ -43,7 +43,7 @@ stays d n zero = refl
 stays d zero (suc k) = refl
 stays d (suc n) (suc k) = stays d n k
 
-tree_stays : (s : Script) (n k : ℕ) → IsQuiet s n → tree_at s k ≡ tree new_document
+tree_stays : (s : Story) (n k : ℕ) → IsQuiet s n → tree_at s k ≡ tree new_document
 unfolding tree_at document_at
 tree_stays s n k q = ap tree (ap (λ es. after_flushes (after_edits new_document es) s.page k) q.base ∙ ap (λ l. after_flushes new_document l k) q.page ∙ stays new_document n k)
 
@@ -52,16 +52,16 @@ unfolding from_below lineage_within kind_notices trimmed element_role hides_elem
 none_told j = refl
 
 -- so nothing is logged but that there is a moment
-pub quiet_entry : (s : Script) (n k : ℕ) → IsQuiet s n → entry_after (tree_at s) k ≡ no_news
+pub quiet_entry : (s : Story) (n k : ℕ) → IsQuiet s n → entry_after (tree_at s) k ≡ no_news
 quiet_entry s n k q =
     (λ i. record { batch = batch_between (tree_stays s n k q i) (tree_stays s n (k + 1) q i); notices = notices_between (tree_stays s n k q i) (tree_stays s n (k + 1) q i) (k + 1) })
     ∙ none_told (k + 1)
 
 -- the page's port of a lock that was opened for a quiet story
-pub begins : (s : Script) (n : ℕ) (ports : PortsState) (p : PageState) → p.table ≡ ports.table → p.story ≡ s → p.page ≡ new_page → IsQuiet s n → IsAt ports n 0 p
+pub begins : (s : Story) (n : ℕ) (ports : PortsState) (p : PageState) → p.table ≡ ports.table → p.story ≡ s → p.page ≡ new_page → IsQuiet s n → IsAt ports n 0 p
 begins s n ports p own of fresh q = record {
   own = own;
-  quiet = subst (λ (x : Script). IsQuiet x n) (sym of) q;
+  quiet = subst (λ (x : Story). IsQuiet x n) (sym of) q;
   going = ap (λ r. r.over) fresh;
   so_far = ap (λ r. r.published) fresh;
 }

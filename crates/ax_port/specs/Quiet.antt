@@ -4,7 +4,7 @@ use Rattle.ax_batch.specs.Fates.{no_change}
 use Rattle.change_log.specs.declared.log.LogEntries.{LogEntries}
 use Rattle.story_check.specs.declared.story.PageLine.{PageLine}
 use Rattle.story_check.specs.declared.story.PageLine.TheVariants.{Flush}
-use Rattle.story_check.specs.Stories.{Script}
+use Rattle.story_check.specs.Stories.{Story}
 use Rattle.ax_port.specs.States.{PortsState, PageState}
 
 -- so many flushes
@@ -13,7 +13,7 @@ flush_lines zero = []
 flush_lines (suc n) = Flush ∷ flush_lines n
 
 -- the page of the story does nothing but flush, so often
-pub record IsQuiet (s : Script) (n : ℕ) : Type 0 where
+pub record IsQuiet (s : Story) (n : ℕ) : Type 0 where
   pub base : s.base ≡ []
   pub page : s.page ≡ flush_lines n
 

@@ -6,31 +6,31 @@ use Rattle.turn_word.specs.declared.view.ClientRecord.{ClientRecord}
 use Rattle.turn_word.specs.Rules.{InOrder, SeenTrue, DeedsTrue}
 use Rattle.turn_word.specs.Ports.{LockId}
 use Rattle.turn_word.specs.Views.{new_page, new_client}
-use Rattle.story_check.specs.Stories.{Script}
+use Rattle.story_check.specs.Stories.{Story}
 use Rattle.ax_port.specs.Spans.{IsWithinCap}
 
 -- the lock that both ports share: which one it is, and the story that it was opened for
 pub record PortsState : Type 0 where
   pub table : LockId
-  pub story : Script
+  pub story : Story
 
 -- the page's port: its lock, its story, and what the page has done
 pub record PageState : Type 0 where
   pub table : LockId
-  pub story : Script
+  pub story : Story
   pub page : PageRecord
 
 -- the client's port: its lock, its story, and what the client has done
 pub record ClientState : Type 0 where
   pub table : LockId
-  pub story : Script
+  pub story : Story
   pub client : ClientRecord
 
 -- a port that was given up, which no contract sees, has no story and no record
-abbrev pub no_story : Script
+abbrev pub no_story : Story
 no_story = record { base = []; page = []; client = []; turns = [] }
 
-abbrev pub story_or : Option Script → Script
+abbrev pub story_or : Option Story → Story
 story_or (Some s) = s
 story_or None = no_story
 
@@ -82,7 +82,7 @@ abbrev pub SameClient : ClientState → ClientState → Type 0
 SameClient a b = (b.table ≡ a.table) × (b.story ≡ a.story)
 
 -- what the rule of the lock says of the two records at the end
-pub record IsLast (s : Script) (page : PageRecord) (client : ClientRecord) : Type 0 where
+pub record IsLast (s : Story) (page : PageRecord) (client : ClientRecord) : Type 0 where
   pub in_order : InOrder (IsWithinCap s) page.published client.taken
   pub seen_true : SeenTrue page client.taken client.over
   pub deeds_true : DeedsTrue (IsWithinCap s) client.deeds page.published client.taken page.over

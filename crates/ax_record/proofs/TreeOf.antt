@@ -35,7 +35,7 @@ use Rattle.ax_base.proofs.Objects.{find_one, kids_are_objects, kids_once, one_ho
 use Rattle.ax_record.specs.declared.record.Record.{Record}
 use Rattle.ax_record.specs.Tree.{record_at, has_object, kids_of, parent_of, IsKid}
 use Rattle.ax_record.specs.ObjectTrees.{IsObjectTree, HasFittingText, KeepsBounds}
-use Rattle.ax_record.specs.Records.{record_of, holder, is_object, tree, frame_of, chars_of, runs_of}
+use Rattle.ax_record.specs.Records.{record_of, object_parent, is_object, tree, frame_of, chars_of, runs_of}
 
 -- what is found among entries that are made of their keys
 pub lookup-made : {X : Type 0} (f : ℕ → X) (n : ℕ) (ks : List ℕ) → lookup (is_at (nat_cmp n)) (map (λ k. (k, f k)) ks) ≡ cond (list_any (finds n) ks) (Some (f n)) None
@@ -130,10 +130,10 @@ module _ (d : Document) (t : IsTree d) where
       go true = refl
       go false = refl
 
-  parent_is : (n : ℕ) → parent_of (tree d) n ≡ cond (is_object d n) (holder d n) None
+  parent_is : (n : ℕ) → parent_of (tree d) n ≡ cond (is_object d n) (object_parent d n) None
   parent_is n = ap (λ o. option_and_then (λ (r : Record). r.parent) o) (record_is n) ∙ go (is_object d n)
     where
-      go : (b : Bool) → option_and_then (λ (r : Record). r.parent) (cond b (Some (record_of d n)) None) ≡ cond b (holder d n) None
+      go : (b : Bool) → option_and_then (λ (r : Record). r.parent) (cond b (Some (record_of d n)) None) ≡ cond b (object_parent d n) None
       go true = refl
       go false = refl
 
@@ -149,14 +149,14 @@ module _ (d : Document) (t : IsTree d) where
   kid_of n k one kid = subst (λ l. Contains l k) (sym (kids_are n ∙ ap (λ b. cond b (kids d n) []) (is_one n one))) kid
 
   -- a kid's parent is the object that it hangs on
-  pub holder_is : (n k : ℕ) → Contains (objects d) n → Contains (kids d n) k → holder d k ≡ Some n
-  holder_is n k one kid =
+  pub object_parent_is : (n k : ℕ) → Contains (objects d) n → Contains (kids d n) k → object_parent d k ≡ Some n
+  object_parent_is n k one kid =
       find_one (λ p. list_any (nat_eq k) (kids d p)) (objects d) n one (list_any-from_Contains nat_eq_equiv k (kids d n) kid)
       (λ q also passes. one_holder d t q n k (objects_shown d t q also) (objects_shown d t n one) (Contains-from_any eqb-true k (kids d q) passes) kid)
 
   -- the root hangs on nothing
-  pub holder-root : holder d root ≡ None
-  holder-root = find_none (λ p. list_any (nat_eq root) (kids d p)) (objects d)
+  pub object_parent-root : object_parent d root ≡ None
+  object_parent-root = find_none (λ p. list_any (nat_eq root) (kids d p)) (objects d)
       (λ q passes. let e = kids_deeper d t q root (Contains-from_any eqb-true root (kids d q) passes) in let r = t.root_level in absurd (omega arith))
 
   -- the record at an id is that of the object
@@ -186,12 +186,12 @@ module _ (d : Document) (t : IsTree d) where
     few = let fewer = fewer_pass (is_object d) (ids d) in let same = ap (λ (ks : List ℕ). length ks) (keys-made (record_of d) (filter (is_object d) (ids d))) in let all = t.few in omega arith;
     own_id = λ n r found. ap (λ (x : Record). x.id) (sym (record_found n r found));
     has_root = has_is root ∙ is_one root (root_is_object d t);
-    root_parent = parent_is root ∙ ap (λ b. cond b (holder d root) None) (is_one root (root_is_object d t)) ∙ holder-root;
+    root_parent = parent_is root ∙ ap (λ b. cond b (object_parent d root) None) (is_one root (root_is_object d t)) ∙ object_parent-root;
     root_no_kid = λ n kid. let e = kids_deeper d t n root (kid_is n root kid).1 in let r = t.root_level in absurd (omega arith);
     known = λ n k kid. has_is k ∙ is_one k (kids_are_objects d t n k (kid_is n k kid).0 (kid_is n k kid).1);
     one_list = λ m n k kid also. one_holder d t m n k (objects_shown d t m (kid_is m k kid).0) (objects_shown d t n (kid_is n k also).0) (kid_is m k kid).1 (kid_is n k also).1;
     once = λ n. subst HasNoRepeats (sym (kids_are n)) (once_each n (is_object d n));
-    parent = λ n k kid. parent_is k ∙ ap (λ b. cond b (holder d k) None) (is_one k (kids_are_objects d t n k (kid_is n k kid).0 (kid_is n k kid).1)) ∙ holder_is n k (kid_is n k kid).0 (kid_is n k kid).1;
+    parent = λ n k kid. parent_is k ∙ ap (λ b. cond b (object_parent d k) None) (is_one k (kids_are_objects d t n k (kid_is n k kid).0 (kid_is n k kid).1)) ∙ object_parent_is n k (kid_is n k kid).0 (kid_is n k kid).1;
     hung = λ n there top. elim (objects_hung d t n (object_is n (sym (has_is n) ∙ there))) [ inl is ↦ absurd (top (sym is)) | inr (p, one, kid) ↦ (p, kid_of p n one kid) ];
     focused = focus_held d.focus;
     texts = λ n r found. subst HasFittingText (record_found n r found) (fits (record_of d n) (nat_eq n root) (body d n) (t.fits n) (t.runs n));

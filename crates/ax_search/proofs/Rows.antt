@@ -9,7 +9,7 @@ use Rattle.ax_base.specs.declared.body.Body.TheVariants.{Element, Words}
 use Rattle.ax_base.specs.declared.rect.Rect.{Rect}
 use Rattle.ax_base.specs.Characters.{Chars, flat, tokens}
 use Rattle.ax_base.specs.Values.{trimmed}
-use Rattle.ax_base.specs.Focusable.{has_counted}
+use Rattle.ax_base.specs.Focusable.{has_global_aria_attribute}
 use Rattle.ax_base.specs.KnownRoles.{known_role}
 use Rattle.ax_base.specs.Roles.{element_role, hides_element, is_ignored}
 use Rattle.ax_base.specs.States.{states_of, level_of, live_set_by, value_shown}
@@ -59,20 +59,20 @@ holds_the_street = refl
 
 -- all headings, in preorder
 all_headings : found (tree page) (searching None false Heading None 100) ≡ 2 ∷ 4 ∷ []
-unfolding from_below lineage_within tokens trimmed flat take_chars known_role has_counted element_role hides_element is_ignored states_of level_of live_set_by value_shown is_block_element embedded chars encode
+unfolding from_below lineage_within tokens trimmed flat take_chars known_role has_global_aria_attribute element_role hides_element is_ignored states_of level_of live_set_by value_shown is_block_element embedded chars encode
 all_headings = refl
 
 -- there is no link
 no_link : found (tree page) (searching None false Link None 1) ≡ []
-unfolding from_below lineage_within tokens trimmed flat take_chars known_role has_counted element_role hides_element is_ignored states_of level_of live_set_by value_shown is_block_element embedded chars encode
+unfolding from_below lineage_within tokens trimmed flat take_chars known_role has_global_aria_attribute element_role hides_element is_ignored states_of level_of live_set_by value_shown is_block_element embedded chars encode
 no_link = refl
 
 -- the last heading before the paragraph
 last_heading : found (tree page) (searching (Some 6) true Heading None 1) ≡ 4 ∷ []
-unfolding from_below lineage_within tokens trimmed flat take_chars known_role has_counted element_role hides_element is_ignored states_of level_of live_set_by value_shown is_block_element embedded chars encode
+unfolding from_below lineage_within tokens trimmed flat take_chars known_role has_global_aria_attribute element_role hides_element is_ignored states_of level_of live_set_by value_shown is_block_element embedded chars encode
 last_heading = refl
 
 -- the one before the paragraph that has the words
 street_before : found (tree page) (searching (Some 6) true Heading (Some (codes "STRASSE")) 1) ≡ 2 ∷ []
-unfolding from_below lineage_within tokens trimmed flat take_chars known_role has_counted element_role hides_element is_ignored states_of level_of live_set_by value_shown is_block_element embedded caseless computing chars encode
+unfolding from_below lineage_within tokens trimmed flat take_chars known_role has_global_aria_attribute element_role hides_element is_ignored states_of level_of live_set_by value_shown is_block_element embedded caseless computing chars encode
 street_before = refl

@@ -6,7 +6,7 @@ use Rattle.ax_ask.specs.declared.transcripts.Transcript.{Transcript}
 use Rattle.ax_ask.specs.Transcripts.{transcript_text}
 use Rattle.story_check.specs.declared.last.LastMoment.{LastMoment}
 use Rattle.story_check.specs.Last.{IsLastOf}
-use Rattle.story_check.specs.Stories.{Script}
+use Rattle.story_check.specs.Stories.{Story}
 use Rattle.ax_answer.specs.Legal.{IsLegalTranscript}
 use Rattle.ax_world.specs.Machine.{transcript_of}
 use Rattle.ax_session.specs.declared.words.Command.{Command}
@@ -60,19 +60,19 @@ complete_from words mine left new reads reads' writes writes' taken input status
     answers command other status text (subst (λ c. MayAnswer c other status text) same (subst (λ i. MayAnswer mine i status text) (e ∙ read) h))
 
 -- what `dump` writes of an accepted story, by its last moment
-pub dumps : (input : List ℕ) (last : LastMoment) (text : List ℕ) → (story : Script) × Accepted input story × IsLastOf story last → text ≡ document_text last.document last.flushes → Does Dump input text
+pub dumps : (input : List ℕ) (last : LastMoment) (text : List ℕ) → (story : Story) × Accepted input story × IsLastOf story last → text ≡ document_text last.document last.flushes → Does Dump input text
 dumps input last text (story, a, is) t = (story, a, t ∙ last_text story last.document last.flushes is.document_is is.flushes_are)
 
 -- what `replay` writes of an accepted story
-pub replays : (input : List ℕ) (story : Script) (text : List ℕ) → Accepted input story → IsLegalTranscript story (transcript_of story) → text ≡ replay_text story → Does Replay input text
+pub replays : (input : List ℕ) (story : Story) (text : List ℕ) → Accepted input story → IsLegalTranscript story (transcript_of story) → text ≡ replay_text story → Does Replay input text
 replays input story text a legal t = (story, a, legal, t)
 
 -- what `gen` writes of an accepted story
-pub summarizes : (n : ℕ) (input : List ℕ) (story : Script) (text : List ℕ) → Accepted input story → IsLegalTranscript story (transcript_of story) → text ≡ summary_text story → Does (Gen n) input text
+pub summarizes : (n : ℕ) (input : List ℕ) (story : Story) (text : List ℕ) → Accepted input story → IsLegalTranscript story (transcript_of story) → text ≡ summary_text story → Does (Gen n) input text
 summarizes n input story text a legal t = (story, a, legal, t)
 
 -- what `run` writes of an accepted story
-pub runs : (input : List ℕ) (story : Script) (transcript : Transcript) (text : List ℕ) → Accepted input story → IsLegalTranscript story transcript → text ≡ transcript_text transcript → Does Run input text
+pub runs : (input : List ℕ) (story : Story) (transcript : Transcript) (text : List ℕ) → Accepted input story → IsLegalTranscript story transcript → text ≡ transcript_text transcript → Does Run input text
 runs input story transcript text a legal t = (story, transcript, a, legal, t)
 
 -- a spawner that nobody used

@@ -9,7 +9,7 @@ use Rattle.ax_record.specs.declared.record.Record.{Record}
 use Rattle.ax_record.specs.Tree.{Tree, record_at, kids_of}
 use Rattle.ax_record.specs.Records.{tree}
 use Rattle.ax_ask.specs.Transcripts.{end_line}
-use Rattle.story_check.specs.Stories.{Script, flushes}
+use Rattle.story_check.specs.Stories.{Story, flushes}
 use Rattle.story_check.specs.Moments.{document_at, tree_at}
 use Rattle.ax_session.specs.Texts.{record_line, object_line, within, lines_within, document_text, dump_text}
 
@@ -70,6 +70,6 @@ whole_text d t start mid new n f is top empty lines ended =
     ended ∙ ap (λ l. l ++ end_line f) (lines ∙ ap (λ l. l ++ lines_within t 128 n) empty ∙ ap (λ m. lines_within t 128 m) top ∙ ap (λ x. lines_within x 128 root) is)
 
 -- the text of the document of a story's last moment is that of the story
-pub last_text : (s : Script) (d : Document) (f : ℕ) → d ≡ document_at s (flushes s.page) → f ≡ flushes s.page → document_text d f ≡ dump_text s
+pub last_text : (s : Story) (d : Document) (f : ℕ) → d ≡ document_at s (flushes s.page) → f ≡ flushes s.page → document_text d f ≡ dump_text s
 unfolding document_text dump_text tree_at
 last_text s d f is all = λ i. lines_within (tree (is i)) 128 root ++ end_line (all i)

@@ -6,7 +6,7 @@ use Rattle.story_check.specs.declared.story.PageLine.{PageLine}
 use Rattle.story_check.specs.declared.story.PageLine.TheVariants.{Until}
 use Rattle.story_check.specs.declared.story.ClientLine.{ClientLine}
 use Rattle.story_check.specs.declared.story.ClientLine.TheVariants.{Await}
-use Rattle.story_check.specs.Stories.{Script, flushes, cap, awaited, awaits_met, untils_met, stuck}
+use Rattle.story_check.specs.Stories.{Story, flushes, cap, awaited, awaits_met, untils_met, stuck}
 use Rattle.story_check.proofs.Caps.{cap_most, cap_rises, untils_rise, untils-append, and_left, and_right, awaits_left, Goes, goes}
 use Rattle.page_thread.specs.declared.ends.PageEnd.{PageEnd}
 use Rattle.page_thread.specs.declared.ends.PageEnd.TheVariants.{Done as PageDone, NoMemory as PageNoMemory, Ended as PageEnded}
@@ -30,7 +30,7 @@ none_waits page need have met w =
     absurd (omega arith)
 
 -- what is awaited may be published at what was taken
-pub may_come : (s : Script) (need have taken : ℕ) → Goes s → AwaitsAt s.client need have taken → need ≤ cap s.page taken
+pub may_come : (s : Story) (need have taken : ℕ) → Goes s → AwaitsAt s.client need have taken → need ≤ cap s.page taken
 may_come s need have taken go w =
     let all : awaits_met s.page 0 (w.before ++ Await need ∷ w.after) ≡ true = ap (awaits_met s.page 0) (sym w.is) ∙ go.awaits in
     let here = and_left (nat_le need (cap s.page (awaited 0 w.before))) _ (awaits_left s.page 0 w.before (Await need ∷ w.after) all) in
@@ -38,7 +38,7 @@ may_come s need have taken go w =
     let rise = cap_rises s.page (awaited 0 w.before) taken w.reached in
     omega arith
 
-pub paired : (s : Script) (page : PageEnd) (client : ClientEnd) (published taken : ℕ) → Goes s → PageFacts s page published taken → ClientFacts s client published taken → IsPaired page client
+pub paired : (s : Story) (page : PageEnd) (client : ClientEnd) (published taken : ℕ) → Goes s → PageFacts s page published taken → ClientFacts s client published taken → IsPaired page client
 paired s PageDone (ClientDone w) p t go f g = tt
 paired s PageDone ClientNoMemory p t go f g = tt
 paired s PageDone (ClientEnded need have) p t go f g =
@@ -50,7 +50,7 @@ paired s (PageEnded need have) ClientNoMemory p t go f g = tt
 paired s (PageEnded need have) (ClientEnded n h) p t go f g =
     let come = may_come s n h t go g.1 in let more = g.1.more in let is = g.0 in let all : p ≡ cap s.page t = f.2 ∙ ap (cap s.page) f.0 in absurd (omega arith)
 
-pub settled : (s : Script) (page : PageEnd) (client : ClientEnd) (published taken : ℕ) → stuck s ≡ false → PageFacts s page published taken → ClientFacts s client published taken → IsPaired page client
+pub settled : (s : Story) (page : PageEnd) (client : ClientEnd) (published taken : ℕ) → stuck s ≡ false → PageFacts s page published taken → ClientFacts s client published taken → IsPaired page client
 settled s page client published taken free f g = paired s page client published taken (goes s free) f g
 
 -- the same of ends that are known

@@ -1,6 +1,6 @@
 -- What the two ends say of the last state.
 use Rattle.std.specs.Prelude.{◌≡◌, ℕ, ◌≤◌, true}
-use Rattle.story_check.specs.Stories.{Script, flushes, cap, awaited, untils_met}
+use Rattle.story_check.specs.Stories.{Story, flushes, cap, awaited, untils_met}
 use Rattle.page_thread.specs.declared.ends.PageEnd.{PageEnd}
 use Rattle.page_thread.specs.declared.ends.PageEnd.TheVariants.{Done as PageDone, NoMemory as PageNoMemory, Ended as PageEnded}
 use Rattle.page_thread.specs.Pages.{WaitsAt}
@@ -9,13 +9,13 @@ use Rattle.ax_client.specs.declared.ends.ClientEnd.TheVariants.{Done as ClientDo
 use Rattle.ax_client.specs.Clients.{AwaitsAt}
 
 -- of what is published and what is taken at last, by the page's end
-abbrev pub PageFacts : Script → PageEnd → ℕ → ℕ → Type 0
+abbrev pub PageFacts : Story → PageEnd → ℕ → ℕ → Type 0
 PageFacts s PageDone published taken = (published ≡ flushes s.page) × (untils_met taken s.page ≡ true)
 PageFacts s PageNoMemory published taken = Unit {0}
 PageFacts s (PageEnded need have) published taken = (have ≡ taken) × WaitsAt s.page need have × (published ≡ cap s.page have)
 
 -- and by the client's
-abbrev pub ClientFacts : Script → ClientEnd → ℕ → ℕ → Type 0
+abbrev pub ClientFacts : Story → ClientEnd → ℕ → ℕ → Type 0
 ClientFacts s (ClientDone w) published taken = awaited 0 s.client ≤ taken
 ClientFacts s ClientNoMemory published taken = Unit {0}
 ClientFacts s (ClientEnded need have) published taken = (have ≡ published) × AwaitsAt s.client need have taken

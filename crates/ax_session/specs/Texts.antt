@@ -13,7 +13,7 @@ use Rattle.ax_record.specs.declared.record.Record.{Record}
 use Rattle.ax_record.specs.Tree.{Tree, record_at, kids_of}
 use Rattle.ax_record.specs.Records.{tree}
 use Rattle.ax_ask.specs.Transcripts.{end_line, transcript_text}
-use Rattle.story_check.specs.Stories.{Script, flushes}
+use Rattle.story_check.specs.Stories.{Story, flushes}
 use Rattle.story_check.specs.Moments.{tree_at}
 use Rattle.ax_world.specs.Machine.{transcript_of}
 
@@ -43,11 +43,11 @@ unfoldable pub document_text : Document → ℕ → Chars
 document_text d f = lines_within (tree d) 128 root ++ end_line f
 
 -- what `dump` writes: the lines of the tree of the last moment, which goes down at most 128 levels, and the number of flushes
-unfoldable pub dump_text : Script → Chars
+unfoldable pub dump_text : Story → Chars
 dump_text s = lines_within (tree_at s (flushes s.page)) 128 root ++ end_line (flushes s.page)
 
 -- what `replay` writes: the text of what the client was told, and the number of flushes
-unfoldable pub replay_text : Script → Chars
+unfoldable pub replay_text : Story → Chars
 replay_text s = transcript_text (transcript_of s)
 
 -- a line of a label and a number
@@ -55,5 +55,5 @@ abbrev pub count_line : Chars → ℕ → Chars
 count_line label count = label ++ decimal count ++ codes "\n"
 
 -- what `gen` writes: how many lines the client has, how many moments the story has, and how many bytes the text of its play has
-unfoldable pub summary_text : Script → Chars
+unfoldable pub summary_text : Story → Chars
 summary_text s = count_line (codes "replies ") (length s.client) ++ count_line (codes "moments ") (flushes s.page) ++ count_line (codes "bytes ") (length (replay_text s))

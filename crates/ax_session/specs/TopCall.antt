@@ -4,7 +4,7 @@ use Rattle.std.specs.declared.alloc.Global.{Global}
 use Rattle.std.specs.Io.KnownBytes.{Appends}
 use Rattle.ax_edge.specs.Causes.{Rose}
 use Rattle.ax_edge.specs.Transfers.{TakesInput, AddsFront}
-use Rattle.story_check.specs.Stories.{Script}
+use Rattle.story_check.specs.Stories.{Story}
 use Rattle.ax_answer.specs.Legal.{IsLegalTranscript}
 use Rattle.ax_world.specs.Machine.{transcript_of}
 use Rattle.ax_session.specs.declared.words.Command.{Command}
@@ -23,17 +23,17 @@ use Rattle.story_gen.specs.Generated.{generated}
 -- The input is one that the command does, and this text shows what it comes to. What is replayed is legal: each reply is that of the
 -- tree built afresh from the document after the edits flushed by its moment, and no moment falls.
 abbrev pub Does : Command → List ℕ → List ℕ → Type 0
-Does Dump input text = (story : Script) × Accepted input story × (text ≡ dump_text story)
-Does Replay input text = (story : Script) × Accepted input story × IsLegalTranscript story (transcript_of story) × (text ≡ replay_text story)
-Does Run input text = (story : Script) × (transcript : Transcript) × Accepted input story × IsLegalTranscript story transcript × (text ≡ transcript_text transcript)
-Does (Gen n) input text = (story : Script) × Accepted input story × IsLegalTranscript story (transcript_of story) × (text ≡ summary_text story)
+Does Dump input text = (story : Story) × Accepted input story × (text ≡ dump_text story)
+Does Replay input text = (story : Story) × Accepted input story × IsLegalTranscript story (transcript_of story) × (text ≡ replay_text story)
+Does Run input text = (story : Story) × (transcript : Transcript) × Accepted input story × IsLegalTranscript story transcript × (text ≡ transcript_text transcript)
+Does (Gen n) input text = (story : Story) × Accepted input story × IsLegalTranscript story (transcript_of story) × (text ≡ summary_text story)
 
 -- the input is one that the command does
 abbrev pub IsGood : Command → List ℕ → Type 0
-IsGood Dump input = (story : Script) × Accepted input story
-IsGood Replay input = (story : Script) × Accepted input story
-IsGood Run input = (story : Script) × Accepted input story
-IsGood (Gen n) input = (story : Script) × Accepted input story
+IsGood Dump input = (story : Story) × Accepted input story
+IsGood Replay input = (story : Story) × Accepted input story
+IsGood Run input = (story : Story) × Accepted input story
+IsGood (Gen n) input = (story : Story) × Accepted input story
 
 -- this is the refusal of the input
 abbrev pub Refuses : Command → List ℕ → Refusal → Type 0
@@ -88,7 +88,7 @@ pub record Replies (words : List (String Global)) (left left' : Option (List ℕ
 abbrev pub WritesAnswer : List (String Global) → Option (List ℕ) → Option (List ℕ) → Option (List ℕ) → Option (List ℕ) → Status → Type 0
 WritesAnswer words left left' gone gone' status = (text : List ℕ) × Replies words left left' status text × Appends gone gone' text
 
--- a front of the text of an answer went out, and nothing else
+-- a prefix of the text of an answer was written, and nothing else
 abbrev pub WritesFront : List (String Global) → Option (List ℕ) → Option (List ℕ) → Option (List ℕ) → Option (List ℕ) → Type 0
 WritesFront words left left' gone gone' = (status : Status) × (text : List ℕ) × Replies words left left' status text × AddsFront gone gone' text
 

@@ -26,7 +26,7 @@ pub enum Status {
     Refused,
     /// A read failed. Nothing is written.
     ReadFault,
-    /// A write failed. A front of the text is out.
+    /// A write failed. Only a prefix of the text was written.
     WriteFault,
     /// There was no memory left. Nothing is written.
     NoMemory,

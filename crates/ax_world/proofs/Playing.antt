@@ -9,18 +9,18 @@ use Rattle.story_check.specs.declared.story.ClientLine.{ClientLine}
 use Rattle.story_check.specs.declared.story.ClientLine.TheVariants.{Ask, Again, Hear, Await, Notices}
 use Rattle.ax_base.specs.declared.ids.Who.{Who}
 use Rattle.ax_base.specs.declared.ids.Who.TheVariants.{Page, Client}
-use Rattle.story_check.specs.Stories.{Script, flushes, cap, awaited, awaits_met, untils_met}
+use Rattle.story_check.specs.Stories.{Story, flushes, cap, awaited, awaits_met, untils_met}
 use Rattle.story_check.proofs.Caps.{cap_past, cap_rises, untils-append, untils_rise, and_left, awaits_left, Goes}
 use Rattle.ax_ask.specs.declared.transcripts.EntryBody.TheVariants.{Await as AwaitBody}
 use Rattle.ax_answer.specs.Legal.{outset, AreLegal, IsLegalSoFar, IsLegal}
 use Rattle.ax_world.specs.Machine.{State, start, step, page_step, client_step, did, waits, printed, after_turns, alternate, IsOver, lines_done, played}
 use Rattle.ax_world.proofs.Standing.{first, at_seam, PageStands, ClientStands, Stands, stands_start, stands_step}
 
-pub stands_after : (s : Script) (turns : List Who) (c : State) → Stands s c → Stands s (after_turns s turns c)
+pub stands_after : (s : Story) (turns : List Who) (c : State) → Stands s c → Stands s (after_turns s turns c)
 stands_after s [] c h = h
 stands_after s (who ∷ turns) c h = stands_after s turns (step s c who).state (stands_step s c who h)
 
-pub stands_always : (s : Script) (turns : List Who) → Stands s (after_turns s turns start)
+pub stands_always : (s : Story) (turns : List Who) → Stands s (after_turns s turns start)
 stands_always s turns = stands_after s turns start (stands_start s)
 
 take_before : {X : Type 0} (xs before left : List X) (i : ℕ) → xs ≡ before ++ left → i ≡ length before → take i xs ≡ before
@@ -30,11 +30,11 @@ take_before xs before left i e n = (λ j. take (n j) (e j)) ∙ take-all before 
     take-all [] left = refl
     take-all (x ∷ xs) left = ap (λ l. x ∷ l) (take-all xs left)
 
-pub legal_so_far : (s : Script) (c : State) → Stands s c → IsLegalSoFar s c.client_done c.entries
+pub legal_so_far : (s : Story) (c : State) → Stands s c → IsLegalSoFar s c.client_done c.entries
 legal_so_far s c h = let k = h.client in subst (λ l. AreLegal s outset l c.entries) (sym (take_before s.client k.before k.left c.client_done k.is k.count)) k.legal
 
 -- the page did a line, or it stays where it may publish no more
-pub record PageHeld (s : Script) (c d : State) : Type 0 where
+pub record PageHeld (s : Story) (c d : State) : Type 0 where
   pub same : d ≡ c
   pub full : c.published ≡ cap s.page c.taken
   pub why : (c.page_done ≡ length s.page) ⊎ (untils_met c.taken s.page ≡ false)
@@ -45,7 +45,7 @@ PageGoes c d = (d.page_done ≡ c.page_done + 1) × (d.client_done ≡ c.client_
 all_done : {X : Type 0} (xs before : List X) (i : ℕ) → xs ≡ before ++ [] → i ≡ length before → i ≡ length xs
 all_done xs before i e n = let h = length-append before [] in let g = ap length e in omega arith
 
-page_comes : (s : Script) (c : State) (p : PageStands s c) (left : List PageLine) → s.page ≡ p.before ++ left → let d = (page_step c (first left)).state in PageGoes c d ⊎ PageHeld s c d
+page_comes : (s : Story) (c : State) (p : PageStands s c) (left : List PageLine) → s.page ≡ p.before ++ left → let d = (page_step c (first left)).state in PageGoes c d ⊎ PageHeld s c d
 page_comes s c p [] is = inr (record {
   same = refl;
   full = let h = cap_past p.before [] c.taken p.passed in let g = ap (λ l. cap l c.taken) is in let f = p.flushed in omega arith;
@@ -69,14 +69,14 @@ page_comes s c p (Until k ∷ xs) is = through (nat_le k c.taken) (nat_lt c.take
     through false false e f g u = absurd (grind (arith, nat_tests))
 
 -- the client did a line, or it stays at its end, or at a moment that is not published yet
-pub record ClientHeld (s : Script) (c d : State) : Type 0 where
+pub record ClientHeld (s : Story) (c d : State) : Type 0 where
   pub same : d ≡ c
   pub why : ((c.client_done ≡ length s.client) × (awaited 0 s.client ≤ c.taken)) ⊎ ((g a : ℕ) × (g ≤ c.taken) × (a ≤ cap s.page g) × (c.published < a))
 
 abbrev ClientGoes : State → State → Type 0
 ClientGoes c d = (d.client_done ≡ c.client_done + 1) × (d.page_done ≡ c.page_done)
 
-client_comes : (s : Script) (c : State) (h : ClientStands s c) (left : List ClientLine) → Goes s → s.client ≡ h.before ++ left → let d = (client_step s c (first left)).state in ClientGoes c d ⊎ ClientHeld s c d
+client_comes : (s : Story) (c : State) (h : ClientStands s c) (left : List ClientLine) → Goes s → s.client ≡ h.before ++ left → let d = (client_step s c (first left)).state in ClientGoes c d ⊎ ClientHeld s c d
 client_comes s c h [] go is = inr (record {
   same = refl;
   why = inl (all_done s.client h.before c.client_done is h.count, let e = ap (awaited 0) (is ∙ append-none h.before) in let w = h.waited in omega arith);
@@ -95,18 +95,18 @@ client_comes s c h (Await a ∷ xs) go is = through (nat_le a c.published) refl 
     through true e f = inl (refl, refl)
     through false e f = let more : c.published < a = grind (arith, nat_tests) in let capped : a ≤ cap s.page (awaited 0 h.before) = grind (arith, nat_tests) in inr (record { same = refl; why = inr (awaited 0 h.before, a, h.waited, capped, more) })
 
-page_turn : (s : Script) (c : State) → Stands s c → PageGoes c (step s c Page).state ⊎ PageHeld s c (step s c Page).state
+page_turn : (s : Story) (c : State) → Stands s c → PageGoes c (step s c Page).state ⊎ PageHeld s c (step s c Page).state
 page_turn s c h =
     let p = h.page in
     subst (λ o. PageGoes c (page_step c o).state ⊎ PageHeld s c (page_step c o).state) (sym (at_seam s.page p.before p.left c.page_done p.is p.count)) (page_comes s c p p.left p.is)
 
-client_turn : (s : Script) (c : State) → Goes s → Stands s c → ClientGoes c (step s c Client).state ⊎ ClientHeld s c (step s c Client).state
+client_turn : (s : Story) (c : State) → Goes s → Stands s c → ClientGoes c (step s c Client).state ⊎ ClientHeld s c (step s c Client).state
 client_turn s c go h =
     let k = h.client in
     subst (λ o. ClientGoes c (client_step s c o).state ⊎ ClientHeld s c (client_step s c o).state) (sym (at_seam s.client k.before k.left c.client_done k.is k.count)) (client_comes s c k k.left go k.is)
 
 -- both sides can't wait
-both_held : (s : Script) (c d e : State) → Goes s → PageHeld s c d → ClientHeld s c e → IsOver s c
+both_held : (s : Story) (c d e : State) → Goes s → PageHeld s c d → ClientHeld s c e → IsOver s c
 both_held s c d e go p k = through p.why k.why
   where
     through : (c.page_done ≡ length s.page) ⊎ (untils_met c.taken s.page ≡ false) → ((c.client_done ≡ length s.client) × (awaited 0 s.client ≤ c.taken)) ⊎ ((g a : ℕ) × (g ≤ c.taken) × (a ≤ cap s.page g) × (c.published < a)) → IsOver s c
@@ -115,10 +115,10 @@ both_held s c d e go p k = through p.why k.why
     through x (inr y) = absurd (let h = cap_rises s.page y.0 c.taken y.2 in let f = p.full in let a = y.3 in let b = y.4 in omega arith)
 
 -- two alternate turns
-abbrev pub twice : Script → State → State
+abbrev pub twice : Story → State → State
 twice s c = after_turns s (alternate 1) c
 
-pub moves : (s : Script) (c : State) → Goes s → Stands s c → IsOver s c ⊎ (lines_done c < lines_done (twice s c))
+pub moves : (s : Story) (c : State) → Goes s → Stands s c → IsOver s c ⊎ (lines_done c < lines_done (twice s c))
 moves s c go h = through (page_turn s c h) (client_turn s d go (stands_step s c Page h))
   where
     d : State
@@ -134,12 +134,12 @@ past : {X : Type 0} (xs : List X) (i : ℕ) → i ≡ length xs → slice_get xs
 past xs i e = slice_get_past xs i (omega arith)
 
 -- nothing changes when both sides are done
-pub over_stays : (s : Script) (turns : List Who) (c : State) → IsOver s c → after_turns s turns c ≡ c
+pub over_stays : (s : Story) (turns : List Who) (c : State) → IsOver s c → after_turns s turns c ≡ c
 over_stays s [] c h = refl
 over_stays s (Page ∷ turns) c h = ap (after_turns s turns) (ap (λ o. (page_step c o).state) (past s.page c.page_done h.0)) ∙ over_stays s turns c h
 over_stays s (Client ∷ turns) c h = ap (after_turns s turns) (ap (λ o. (client_step s c o).state) (past s.client c.client_done h.1)) ∙ over_stays s turns c h
 
-pub after-append : (s : Script) (xs ys : List Who) (c : State) → after_turns s (xs ++ ys) c ≡ after_turns s ys (after_turns s xs c)
+pub after-append : (s : Story) (xs ys : List Who) (c : State) → after_turns s (xs ++ ys) c ≡ after_turns s ys (after_turns s xs c)
 after-append s [] ys c = refl
 after-append s (x ∷ xs) ys c = after-append s xs ys (step s c x).state
 
@@ -148,7 +148,7 @@ alternate-add zero k = ap alternate (omega arith)
 alternate-add (suc n) k = let e : suc n + k ≡ suc (n + k) = omega arith in ap alternate e ∙ ap (λ l. Page ∷ Client ∷ l) (alternate-add n k)
 
 -- each round does a line, or all are done
-rounds : (s : Script) (n : ℕ) (c : State) → Goes s → Stands s c → IsOver s (after_turns s (alternate n) c) ⊎ (lines_done c + n ≤ lines_done (after_turns s (alternate n) c))
+rounds : (s : Story) (n : ℕ) (c : State) → Goes s → Stands s c → IsOver s (after_turns s (alternate n) c) ⊎ (lines_done c + n ≤ lines_done (after_turns s (alternate n) c))
 rounds s zero c go h = inr (omega arith)
 rounds s (suc n) c go h = through (moves s c go h) (rounds s n (twice s c) go (stands_after s (alternate 1) c h))
   where
@@ -160,13 +160,13 @@ rounds s (suc n) c go h = through (moves s c go h) (rounds s n (twice s c) go (s
 within : {X : Type 0} (xs before left : List X) (i : ℕ) → xs ≡ before ++ left → i ≡ length before → i ≤ length xs
 within xs before left i e n = let h = length-append before left in let g = ap length e in omega arith
 
-pub page_within : (s : Script) (c : State) → Stands s c → c.page_done ≤ length s.page
+pub page_within : (s : Story) (c : State) → Stands s c → c.page_done ≤ length s.page
 page_within s c h = let p = h.page in within s.page p.before p.left c.page_done p.is p.count
 
-pub client_within : (s : Script) (c : State) → Stands s c → c.client_done ≤ length s.client
+pub client_within : (s : Story) (c : State) → Stands s c → c.client_done ≤ length s.client
 client_within s c h = let k = h.client in within s.client k.before k.left c.client_done k.is k.count
 
-pub over_after : (s : Script) (c : State) → Goes s → Stands s c → IsOver s (after_turns s (alternate (length s.page + length s.client)) c)
+pub over_after : (s : Story) (c : State) → Goes s → Stands s c → IsOver s (after_turns s (alternate (length s.page + length s.client)) c)
 over_after s c go h = through (rounds s n c go h) (page_within s e k) (client_within s e k)
   where
     n : ℕ
@@ -182,11 +182,11 @@ over_after s c go h = through (rounds s n c go h) (page_within s e k) (client_wi
     through (inl over) f g = over
     through (inr more) f g = (omega arith, omega arith)
 
-pub played_over : (s : Script) → Goes s → IsOver s (played s)
+pub played_over : (s : Story) → Goes s → IsOver s (played s)
 played_over s go = subst (IsOver s) (sym (after-append s s.turns (alternate (length s.page + length s.client)) start)) (over_after s (after_turns s s.turns start) go (stands_always s s.turns))
 
 -- the entries of a state in which all is done are those of a whole run
-pub legal_over : (s : Script) (c : State) → Stands s c → IsOver s c → IsLegal s c.entries
+pub legal_over : (s : Story) (c : State) → Stands s c → IsOver s c → IsLegal s c.entries
 legal_over s c h over = subst (λ l. AreLegal s outset l c.entries) (ap (λ i. take i s.client) over.1 ∙ take-length s.client) (legal_so_far s c h)
   where
     take-length : {X : Type 0} (xs : List X) → take (length xs) xs ≡ xs
@@ -194,7 +194,7 @@ legal_over s c h over = subst (λ l. AreLegal s outset l c.entries) (ap (λ i. t
     take-length (x ∷ xs) = ap (λ l. x ∷ l) (take-length xs)
 
 -- more rounds than needed change nothing
-longer : (s : Script) (turns : List Who) (n k : ℕ) → IsOver s (after_turns s (turns ++ alternate n) start) → after_turns s (turns ++ alternate (n + k)) start ≡ after_turns s (turns ++ alternate n) start
+longer : (s : Story) (turns : List Who) (n k : ℕ) → IsOver s (after_turns s (turns ++ alternate n) start) → after_turns s (turns ++ alternate (n + k)) start ≡ after_turns s (turns ++ alternate n) start
 longer s turns n k over =
     let c = after_turns s turns start in
     let first_part = after-append s turns (alternate n) start in
@@ -204,7 +204,7 @@ longer s turns n k over =
     ∙ (ap (after_turns s (alternate k)) (sym first_part)
     ∙ over_stays s (alternate k) _ over)))
 
-pub same_rounds : (s : Script) (turns : List Who) (n m : ℕ) → IsOver s (after_turns s (turns ++ alternate n) start) → IsOver s (after_turns s (turns ++ alternate m) start) → after_turns s (turns ++ alternate n) start ≡ after_turns s (turns ++ alternate m) start
+pub same_rounds : (s : Story) (turns : List Who) (n m : ℕ) → IsOver s (after_turns s (turns ++ alternate n) start) → IsOver s (after_turns s (turns ++ alternate m) start) → after_turns s (turns ++ alternate n) start ≡ after_turns s (turns ++ alternate m) start
 same_rounds s turns n m x y = through (nat_le n m) refl
   where
     through : (b : Bool) → nat_le n m ≡ b → after_turns s (turns ++ alternate n) start ≡ after_turns s (turns ++ alternate m) start

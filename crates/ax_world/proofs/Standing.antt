@@ -10,7 +10,7 @@ use Rattle.story_check.specs.declared.story.ClientLine.{ClientLine}
 use Rattle.story_check.specs.declared.story.ClientLine.TheVariants.{Ask, Again, Hear, Await, Notices}
 use Rattle.ax_base.specs.declared.ids.Who.{Who}
 use Rattle.ax_base.specs.declared.ids.Who.TheVariants.{Page, Client}
-use Rattle.story_check.specs.Stories.{Script, flushes, cap, awaited, untils_met}
+use Rattle.story_check.specs.Stories.{Story, flushes, cap, awaited, untils_met}
 use Rattle.story_check.proofs.Caps.{flushes-append, cap_past, untils-append, untils_rise, and_true, awaited-append}
 use Rattle.ax_ask.specs.declared.transcripts.Entry.{Entry}
 use Rattle.ax_ask.specs.declared.transcripts.EntryBody.TheVariants.{Reply, Await as AwaitBody, Hear as HearBody, Notices as NoticesBody}
@@ -37,7 +37,7 @@ pub record PageAt (page : List PageLine) (done published taken : ℕ) : Type 0 w
   pub flushed : published ≡ flushes before
   pub passed : untils_met taken before ≡ true
 
-abbrev pub PageStands : Script → State → Type 0
+abbrev pub PageStands : Story → State → Type 0
 PageStands s c = PageAt s.page c.page_done c.published c.taken
 
 page_goes : (page before : List PageLine) (x : PageLine) (xs : List PageLine) (i p q m : ℕ) → page ≡ before ++ x ∷ xs → i ≡ length before → p ≡ flushes before → untils_met m before ≡ true → untils_met m (x ∷ []) ≡ true → q ≡ p + flushes (x ∷ []) → PageAt page (i + 1) q m
@@ -50,7 +50,7 @@ page_goes page before x xs i p q m is count flushed passed met more = record {
   passed = and_true _ _ _ (untils-append before (x ∷ []) m) passed met;
 }
 
-page_line : (s : Script) (c : State) (before left : List PageLine) → s.page ≡ before ++ left → c.page_done ≡ length before → c.published ≡ flushes before → untils_met c.taken before ≡ true → PageStands s (page_step c (first left)).state
+page_line : (s : Story) (c : State) (before left : List PageLine) → s.page ≡ before ++ left → c.page_done ≡ length before → c.published ≡ flushes before → untils_met c.taken before ≡ true → PageStands s (page_step c (first left)).state
 page_line s c before [] is n f p = record { before = before; left = []; is = is; count = n; flushed = f; passed = p }
 page_line s c before (Change e ∷ xs) is n f p = page_goes s.page before (Change e) xs c.page_done c.published c.published c.taken is n f p refl (omega arith)
 page_line s c before (Flush ∷ xs) is n f p = page_goes s.page before Flush xs c.page_done c.published (c.published + 1) c.taken is n f p refl (omega arith)
@@ -72,7 +72,7 @@ abbrev pub place_of : State → Place
 place_of c = record { lines = c.client_done; moment = c.taken; bell = c.bell; noticed = c.noticed }
 
 -- the client has done some of its lines, and its entries are legal
-pub record ClientStands (s : Script) (c : State) : Type 0 where
+pub record ClientStands (s : Story) (c : State) : Type 0 where
   pub before : List ClientLine
   pub left : List ClientLine
   pub is : s.client ≡ before ++ left
@@ -85,7 +85,7 @@ pub record ClientStands (s : Script) (c : State) : Type 0 where
   pub place : place_after outset before c.entries ≡ place_of c
 
 -- the page's turns leave the client where it is
-client_later : (s : Script) (c : State) (i p : ℕ) → c.published ≤ p → ClientStands s c → ClientStands s (record c { page_done = i; published = p })
+client_later : (s : Story) (c : State) (i p : ℕ) → c.published ≤ p → ClientStands s c → ClientStands s (record c { page_done = i; published = p })
 client_later s c i p h a = let x = a.taken_most in let y = a.bell_most in record {
   before = a.before;
   left = a.left;
@@ -99,7 +99,7 @@ client_later s c i p h a = let x = a.taken_most in let y = a.bell_most in record
   place = a.place;
 }
 
-client_goes : (s : Script) (c d : State) (h : ClientStands s c) (line : ClientLine) (xs : List ClientLine) (e : Entry) → s.client ≡ h.before ++ line ∷ xs → d.client_done ≡ c.client_done + 1 → d.entries ≡ c.entries ++ e ∷ [] → e.number ≡ c.client_done + 1 → IsEntry s (place_of c) line e → place_of d ≡ after_entry (place_of c) line e → ((g : ℕ) → g ≤ c.taken → awaited g (line ∷ []) ≤ d.taken) → d.taken ≤ d.published → d.bell ≤ d.published → d.noticed ≤ d.taken → ClientStands s d
+client_goes : (s : Story) (c d : State) (h : ClientStands s c) (line : ClientLine) (xs : List ClientLine) (e : Entry) → s.client ≡ h.before ++ line ∷ xs → d.client_done ≡ c.client_done + 1 → d.entries ≡ c.entries ++ e ∷ [] → e.number ≡ c.client_done + 1 → IsEntry s (place_of c) line e → place_of d ≡ after_entry (place_of c) line e → ((g : ℕ) → g ≤ c.taken → awaited g (line ∷ []) ≤ d.taken) → d.taken ≤ d.published → d.bell ≤ d.published → d.noticed ≤ d.taken → ClientStands s d
 client_goes s c d h line xs e is n es number entry place waited tm bm nm = record {
   before = h.before ++ line ∷ [];
   left = xs;
@@ -114,10 +114,10 @@ client_goes s c d h line xs e is n es number entry place waited tm bm nm = recor
 }
 
 -- a take finds what a take may find
-found : (s : Script) (c : State) → PageStands s c → ClientStands s c → IsFound s (place_of c) c.published
+found : (s : Story) (c : State) → PageStands s c → ClientStands s c → IsFound s (place_of c) c.published
 found s c p h = let x = h.taken_most in let y = h.bell_most in (omega arith, page_capped s.page c.page_done c.published c.taken p)
 
-client_line : (s : Script) (c : State) (p : PageStands s c) (h : ClientStands s c) (left : List ClientLine) → s.client ≡ h.before ++ left → ClientStands s (client_step s c (first left)).state
+client_line : (s : Story) (c : State) (p : PageStands s c) (h : ClientStands s c) (left : List ClientLine) → s.client ≡ h.before ++ left → ClientStands s (client_step s c (first left)).state
 client_line s c p h [] is = h
 client_line s c p h (Ask q ∷ xs) is = client_goes s c _ h (Ask q) xs (record { number = c.client_done + 1; moment = c.published; body = Reply (answer_at s c.published q) }) is refl refl refl (found s c p h, refl) refl (λ g k. let x = h.taken_most in omega arith) (omega arith) (h.bell_most) (let x = h.taken_most in let y = h.noticed_most in omega arith)
 client_line s c p h (Again q ∷ xs) is = client_goes s c _ h (Again q) xs (record { number = c.client_done + 1; moment = c.taken; body = Reply (answer_at s c.taken q) }) is refl refl refl (refl, refl) refl (λ g k. k) h.taken_most h.bell_most h.noticed_most
@@ -130,18 +130,18 @@ client_line s c p h (Await a ∷ xs) is = through (nat_le a c.published) refl
 client_line s c p h (Notices ∷ xs) is = client_goes s c _ h Notices xs (record { number = c.client_done + 1; moment = c.taken; body = NoticesBody (notices_of s c.noticed c.taken) }) is refl refl refl (refl, refl) refl (λ g k. k) h.taken_most h.bell_most (omega arith)
 
 -- both sides
-pub record Stands (s : Script) (c : State) : Type 0 where
+pub record Stands (s : Story) (c : State) : Type 0 where
   pub page : PageStands s c
   pub client : ClientStands s c
 
-pub stands_start : (s : Script) → Stands s start
+pub stands_start : (s : Story) → Stands s start
 stands_start s = record {
   page = record { before = []; left = s.page; is = refl; count = refl; flushed = refl; passed = refl };
   client = record { before = []; left = s.client; is = refl; count = refl; waited = omega arith; taken_most = omega arith; bell_most = omega arith; noticed_most = omega arith; legal = tt; place = refl };
 }
 
 -- the page's turn leaves the client's part
-client_of_page : (s : Script) (c : State) (line : Option PageLine) → ClientStands s c → ClientStands s (page_step c line).state
+client_of_page : (s : Story) (c : State) (line : Option PageLine) → ClientStands s c → ClientStands s (page_step c line).state
 client_of_page s c None h = h
 client_of_page s c (Some (Change e)) h = client_later s c (c.page_done + 1) c.published (omega arith) h
 client_of_page s c (Some Flush) h = client_later s c (c.page_done + 1) (c.published + 1) (omega arith) h
@@ -152,7 +152,7 @@ client_of_page s c (Some (Until k)) h = through (nat_le k c.taken)
     through false = h
 
 -- the client's turn leaves the page's part
-page_of_client : (s : Script) (c : State) (line : Option ClientLine) → c.taken ≤ c.published → PageStands s c → PageStands s (client_step s c line).state
+page_of_client : (s : Story) (c : State) (line : Option ClientLine) → c.taken ≤ c.published → PageStands s c → PageStands s (client_step s c line).state
 page_of_client s c None k h = h
 page_of_client s c (Some (Ask q)) k h = page_later _ _ _ _ _ k h
 page_of_client s c (Some (Again q)) k h = h
@@ -164,7 +164,7 @@ page_of_client s c (Some (Await a)) k h = through (nat_le a c.published)
     through false = h
 page_of_client s c (Some Notices) k h = h
 
-pub stands_step : (s : Script) (c : State) (who : Who) → Stands s c → Stands s (step s c who).state
+pub stands_step : (s : Story) (c : State) (who : Who) → Stands s c → Stands s (step s c who).state
 stands_step s c Page h =
     let p = h.page in
     let e = at_seam s.page p.before p.left c.page_done p.is p.count in

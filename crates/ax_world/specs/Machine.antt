@@ -6,7 +6,7 @@ use Rattle.story_check.specs.declared.story.PageLine.{PageLine}
 use Rattle.story_check.specs.declared.story.PageLine.TheVariants.{Change, Flush, Until}
 use Rattle.story_check.specs.declared.story.ClientLine.{ClientLine}
 use Rattle.story_check.specs.declared.story.ClientLine.TheVariants.{Ask, Again, Hear, Await, Notices}
-use Rattle.story_check.specs.Stories.{Script, flushes}
+use Rattle.story_check.specs.Stories.{Story, flushes}
 use Rattle.ax_ask.specs.declared.transcripts.Entry.{Entry}
 use Rattle.ax_ask.specs.declared.transcripts.Transcript.{Transcript}
 use Rattle.ax_ask.specs.declared.transcripts.EntryBody.{EntryBody}
@@ -54,7 +54,7 @@ page_step c (Some (Change e)) = did (record c { page_done = c.page_done + 1 })
 page_step c (Some Flush) = did (record c { page_done = c.page_done + 1; published = c.published + 1 })
 page_step c (Some (Until k)) = if nat_le k c.taken then did (record c { page_done = c.page_done + 1 }) else waits c k c.taken
 
-abbrev pub client_step : Script → State → Option ClientLine → Step
+abbrev pub client_step : Story → State → Option ClientLine → Step
 client_step s c None = ended c
 client_step s c (Some (Ask q)) = did (record (printed c c.published (Reply (answer_at s c.published q))) { taken = c.published })
 client_step s c (Some (Await a)) = if nat_le a c.published then did (record (printed c c.published AwaitBody) { taken = c.published }) else waits c a c.published
@@ -63,12 +63,12 @@ client_step s c (Some Hear) = did (record (printed c c.published HearBody) { bel
 client_step s c (Some Notices) = did (record (printed c c.taken (NoticesBody (notices_of s c.noticed c.taken))) { noticed = c.taken })
 
 -- one turn of a side
-abbrev pub step : Script → State → Who → Step
+abbrev pub step : Story → State → Who → Step
 step s c Page = page_step c (slice_get s.page c.page_done)
 step s c Client = client_step s c (slice_get s.client c.client_done)
 
 -- the state after these turns
-abbrev pub after_turns : Script → List Who → State → State
+abbrev pub after_turns : Story → List Who → State → State
 after_turns s [] c = c
 after_turns s (who ∷ turns) c = after_turns s turns (step s c who).state
 
@@ -78,32 +78,32 @@ alternate zero = []
 alternate (suc n) = Page ∷ Client ∷ alternate n
 
 -- some turns lead to this state
-abbrev pub IsReached : Script → State → Type 0
+abbrev pub IsReached : Story → State → Type 0
 IsReached s c = (turns : List Who) × (c ≡ after_turns s turns start)
 
 -- so many alternate turns lead from the first state to the second, whatever turns led to the first
-abbrev pub InRounds : Script → State → State → Type 0
+abbrev pub InRounds : Story → State → State → Type 0
 InRounds s c d = (n : ℕ) × ((turns : List Who) → c ≡ after_turns s turns start → d ≡ after_turns s (turns ++ alternate n) start)
 
 -- no side has a line left
-abbrev pub IsOver : Script → State → Type 0
+abbrev pub IsOver : Story → State → Type 0
 IsOver s c = (c.page_done ≡ length s.page) × (c.client_done ≡ length s.client)
 
 abbrev pub lines_done : State → ℕ
 lines_done c = c.page_done + c.client_done
 
 -- the turns of the story, and then as many alternate turns as can be of use
-abbrev pub played : Script → State
+abbrev pub played : Story → State
 played s = after_turns s (s.turns ++ alternate (length s.page + length s.client)) start
 
 -- the transcript of the story that is played: its entries, and the number of flushes
-abbrev pub transcript_of : Script → Transcript
+abbrev pub transcript_of : Story → Transcript
 transcript_of s = record { entries = (played s).entries; flushes = flushes s.page }
 
 -- what alternate turns alone come to, without the turns of the story
-abbrev pub played_in_turns : Script → State
+abbrev pub played_in_turns : Story → State
 played_in_turns s = after_turns s (alternate (length s.page + length s.client)) start
 
 -- the transcript of that play
-abbrev pub transcript_in_turns : Script → Transcript
+abbrev pub transcript_in_turns : Story → Transcript
 transcript_in_turns s = record { entries = (played_in_turns s).entries; flushes = flushes s.page }

@@ -2,7 +2,7 @@
 ghost use Rattle.std.specs.Prelude.{◌≡◌, ℕ, ◌+◌, ◌↔◌, ◌≤◌, ◌<◌, IfOk, IsTrue, Some, slice_get, length, false};
 ghost use Rattle.story_check.specs.declared.limits.TheConstants.{MAX_CLIENT_LINES, MAX_FLUSHES};
 ghost use Rattle.story_check.specs.declared.story.PageLine.TheVariants.{Change, Flush, Until};
-ghost use Rattle.story_check.specs.Stories.{Script, flushes, stuck};
+ghost use Rattle.story_check.specs.Stories.{Story, flushes, stuck};
 ghost use Rattle.story_check.specs.Moments.{IsAccepted};
 ghost use Rattle.ax_ask.specs.declared.transcripts.EntryBody.TheVariants.{Reply as ReplyBody, Notices as NoticesBody};
 ghost use Rattle.ax_answer.specs.Moments.{answer_at, notices_of};
@@ -27,7 +27,7 @@ use story_check::{ClientLine, PageLine, Story, base_dom};
 #[derive(Drop)]
 pub struct World {
     story: Snapshot<Story>,
-    count: u32,
+    flush_count: u32,
     page_done: usize,
     client_done: usize,
     published: u32,
@@ -40,7 +40,7 @@ pub struct World {
     /// The moments that are published and not taken.
     log: ChangeLog,
     /// The client's tree.
-    mine: Isolated,
+    client_tree: Isolated,
     /// The notices that were taken and not printed.
     pending: Notices,
 }
@@ -54,7 +54,7 @@ impl Model for World {
 
     ghost view = { λ w. record { story = w.story.value; state = record { page_done = w.page_done; client_done = w.client_done; published = w.published; taken = w.taken; bell = w.bell; noticed = w.noticed; entries = w.entries } } };
 
-    ghost invariant = { λ w. IsKept w.story.value (record { page_done = w.page_done; client_done = w.client_done; published = w.published; taken = w.taken; bell = w.bell; noticed = w.noticed; entries = w.entries }) w.live w.log w.mine w.pending × (w.count ≡ flushes w.story.value.page) };
+    ghost invariant = { λ w. IsKept w.story.value (record { page_done = w.page_done; client_done = w.client_done; published = w.published; taken = w.taken; bell = w.bell; noticed = w.noticed; entries = w.entries }) w.live w.log w.client_tree w.pending × (w.flush_count ≡ flushes w.story.value.page) };
 }
 
 impl World {
@@ -65,10 +65,10 @@ impl World {
     {
         let document = base_dom(alloc, story)?;
         let live = LiveTree::new(alloc, document)?;
-        let mine = Isolated::from_tree(alloc, &live)?;
+        let client_tree = Isolated::from_tree(alloc, &live)?;
         Ok(World {
             story: Snapshot::of(story),
-            count: story.flushes(),
+            flush_count: story.flushes(),
             page_done: 0,
             client_done: 0,
             published: 0,
@@ -78,7 +78,7 @@ impl World {
             entries: Entries::new(alloc),
             live,
             log: ChangeLog::empty(alloc),
-            mine,
+            client_tree,
             pending: Notices::new(alloc),
         })
     }
@@ -107,12 +107,12 @@ impl World {
         }
         let done = self.page_done + 1;
         match &page[self.page_done] {
-            PageLine::Change(edit) => Ok((self.changed(alloc, done, edit)?, Turn::Did)),
-            PageLine::Flush => Ok((self.flushed(alloc, done)?, Turn::Did)),
+            PageLine::Change(edit) => Ok((self.edit(alloc, done, edit)?, Turn::Did)),
+            PageLine::Flush => Ok((self.flush(alloc, done)?, Turn::Did)),
             PageLine::Until(need) => {
                 let (need, have) = (*need, Moment(self.taken));
                 if need.number() <= have.number() {
-                    Ok((self.passed(done, need), Turn::Did))
+                    Ok((self.pass_until(done, need), Turn::Did))
                 } else {
                     Ok((self, Turn::Waiting { need, have }))
                 }
@@ -121,7 +121,7 @@ impl World {
     }
 
     /// The page does an edit.
-    fn changed(self, alloc: Global, done: usize, edit: &Edit) -> Result<World, NoMemory>
+    fn edit(self, alloc: Global, done: usize, edit: &Edit) -> Result<World, NoMemory>
         requires line { slice_get self.story.page self.state.page_done ≡ Some (Change edit.now) }
         requires done { done ≡ self.state.page_done + 1 }
         ensures { IfOk result (λ w. w ≡ record { story = self.story; state = record self.state { page_done = done } }) }
@@ -138,7 +138,7 @@ impl World {
     }
 
     /// The page publishes one more moment.
-    fn flushed(self, alloc: Global, done: usize) -> Result<World, NoMemory>
+    fn flush(self, alloc: Global, done: usize) -> Result<World, NoMemory>
         requires few { flushes self.story.page ≤ MAX_FLUSHES + 1 }
         requires line { slice_get self.story.page self.state.page_done ≡ Some Flush }
         requires done { done ≡ self.state.page_done + 1 }
@@ -158,7 +158,7 @@ impl World {
     }
 
     /// The page goes on after a wait that is met.
-    fn passed(self, done: usize, need: Moment) -> World
+    fn pass_until(self, done: usize, need: Moment) -> World
         requires line { slice_get self.story.page self.state.page_done ≡ Some (Until need) }
         requires done { done ≡ self.state.page_done + 1 }
         ensures { result ≡ record { story = self.story; state = record self.state { page_done = done } } }
@@ -181,23 +181,23 @@ impl World {
             return Ok((self, Turn::Done));
         }
         match &client[self.client_done] {
-            ClientLine::Ask(request) => Ok((self.take(alloc)?.replied(alloc, request)?, Turn::Did)),
-            ClientLine::Again(request) => Ok((self.replied(alloc, request)?, Turn::Did)),
+            ClientLine::Ask(request) => Ok((self.take(alloc)?.respond(alloc, request)?, Turn::Did)),
+            ClientLine::Again(request) => Ok((self.respond(alloc, request)?, Turn::Did)),
             ClientLine::Hear => {
                 let bell = self.published;
-                let world = self.printed(bell, EntryBody::Hear)?;
+                let world = self.print(bell, EntryBody::Hear)?;
                 Ok((World { bell, ..world }, Turn::Did))
             }
             ClientLine::Await(need) => {
                 let (need, have) = (*need, Moment(self.published));
                 if need.number() <= have.number() {
-                    let world = self.take(alloc)?.printed(have.number(), EntryBody::Await)?;
+                    let world = self.take(alloc)?.print(have.number(), EntryBody::Await)?;
                     Ok((world, Turn::Did))
                 } else {
                     Ok((self, Turn::Waiting { need, have }))
                 }
             }
-            ClientLine::Notices => Ok((self.told(alloc)?, Turn::Did)),
+            ClientLine::Notices => Ok((self.print_notices(alloc)?, Turn::Did)),
         }
     }
 
@@ -205,20 +205,20 @@ impl World {
     fn take(self, alloc: Global) -> Result<World, NoMemory>
         ensures { IfOk result (λ w. w ≡ record { story = self.story; state = record self.state { taken = self.state.published } }) }
     {
-        let (mine, told) = self.mine.patch(self.log)?;
+        let (client_tree, told) = self.client_tree.patch(self.log)?;
         let mut pending = self.pending;
         pending.extend(told)?;
         Ok(World {
             taken: self.published,
             log: ChangeLog::empty(alloc),
-            mine,
+            client_tree,
             pending,
             ..self
         })
     }
 
     /// The client prints the notices that it took and did not print, for its next line.
-    fn told(self, alloc: Global) -> Result<World, NoMemory>
+    fn print_notices(self, alloc: Global) -> Result<World, NoMemory>
         requires few { length self.story.client ≤ MAX_CLIENT_LINES }
         requires line { self.state.client_done < length self.story.client }
         ensures { IfOk result (λ w. w ≡ record { story = self.story; state = record (printed self.state self.state.taken (NoticesBody (notices_of self.story self.state.noticed self.state.taken))) { noticed = self.state.taken } }) }
@@ -230,29 +230,29 @@ impl World {
             pending: Notices::new(alloc),
             ..self
         };
-        world.printed(moment, EntryBody::Notices(told))
+        world.print(moment, EntryBody::Notices(told))
     }
 
     /// What the client's tree answers.
     fn reply(&self, alloc: Global, request: &Request) -> Result<Reply, NoMemory>
         ensures { IfOk result (λ r. r ≡ answer_at self.now.story self.now.state.taken request.now) }
     {
-        answer(alloc, &self.mine, request)
+        answer(alloc, &self.client_tree, request)
     }
 
     /// The client prints an answer from its tree, for its next line.
-    fn replied(self, alloc: Global, request: &Request) -> Result<World, NoMemory>
+    fn respond(self, alloc: Global, request: &Request) -> Result<World, NoMemory>
         requires few { length self.story.client ≤ MAX_CLIENT_LINES }
         requires line { self.state.client_done < length self.story.client }
         ensures { IfOk result (λ w. w ≡ record { story = self.story; state = printed self.state self.state.taken (ReplyBody (answer_at self.story self.state.taken request.now)) }) }
     {
         let reply = self.reply(alloc, request)?;
         let moment = self.taken;
-        self.printed(moment, EntryBody::Reply(reply))
+        self.print(moment, EntryBody::Reply(reply))
     }
 
     /// The client prints an entry for its next line.
-    fn printed(self, moment: u32, body: EntryBody) -> Result<World, NoMemory>
+    fn print(self, moment: u32, body: EntryBody) -> Result<World, NoMemory>
         requires few { length self.story.client ≤ MAX_CLIENT_LINES }
         requires line { self.state.client_done < length self.story.client }
         ensures { IfOk result (λ w. w ≡ record { story = self.story; state = printed self.state moment body }) }
@@ -286,7 +286,7 @@ impl World {
     {
         Transcript {
             entries: self.entries,
-            flushes: self.count,
+            flushes: self.flush_count,
         }
     }
 }

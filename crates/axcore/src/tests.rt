@@ -1,4 +1,5 @@
-//! What no clause says: that memory is not said to be missing. What is written for each story, and the status, is compared on
+//! What no clause says: that no call reports want of memory while there is enough.
+//! What is written for each story, and the status, is compared on
 //! the program itself.
 use ax_edge::{Bytes, LoneSpawner, MemSink, OpenGate, SureSource};
 use ax_session::{Status, axcore};

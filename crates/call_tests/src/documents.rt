@@ -1,4 +1,5 @@
-//! What no clause says: that memory is not said to be missing. What edits do, and what they are refused for, is compared on
+//! What no clause says: that no call reports want of memory while there is enough.
+//! What edits do, and what they are refused for, is compared on
 //! stories.
 ghost use Rattle.std.specs.Prelude.{◌≡◌, IfOk};
 ghost use Rattle.ax_dom.specs.Bounds.{EditKeepsBounds};
@@ -42,7 +43,10 @@ fn read<L: Ledger>(rt: &impl Abort, dom: &Dom, blank: Blank)
 {
     let (book, share) = blank.open::<L>();
     let mut steps = Steps::new(book, share);
-    assert_eq!(rt; dom.children(ObjId::ROOT, &mut steps), [ObjId(5)].as_slice());
+    assert_eq!(rt;
+        dom.children(ObjId::ROOT, &mut steps),
+        [ObjId(5)].as_slice()
+    );
     assert_eq!(rt; dom.parent(ObjId(5), &mut steps), Some(ObjId::ROOT));
     assert!(rt; dom.cell(ObjId(5), &mut steps).is_some());
 }

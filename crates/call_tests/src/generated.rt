@@ -1,4 +1,4 @@
-//! What no clause says: that memory is not said to be missing.
+//! What no clause says: that no call reports want of memory while there is enough.
 use std::test::Fail;
 use story_gen::generate;
 

@@ -1,4 +1,4 @@
-//! Calls of the lower crates, each once with ample memory: that it is not said to be missing is what no clause says. They stand
+//! Calls of the lower crates, each once with ample memory: no clause says that want of memory is not reported then. They stand
 //! in a crate of their own, since a crate that has tests is proved twice.
 #![tactic(auto)]
 

@@ -1,4 +1,5 @@
-//! What no clause says: that memory is not said to be missing. Which lines are read, and as what, is compared on stories.
+//! What no clause says: that no call reports want of memory while there is enough.
+//! Which lines are read, and as what, is compared on stories.
 use std::alloc::Global;
 use story_lines::read_line;
 

@@ -1,4 +1,5 @@
-//! What no clause says: that memory is not said to be missing. What names are is compared on stories.
+//! What no clause says: that no call reports want of memory while there is enough.
+//! What names are is compared on stories.
 use ax_names::Piece;
 use std::test::Fail;
 

@@ -1,4 +1,4 @@
-//! What no clause says: that memory is not said to be missing, and how replies read that no story has yet. The others are
+//! What no clause says: that no call reports want of memory while there is enough, and how replies read that no story has yet. The others are
 //! compared on stories.
 use ax_ask::{
     Entries, Entry, EntryBody, Marker, Placing, Reply, SearchKey, SearchKeys, Transcript,

@@ -1,4 +1,5 @@
-//! What no clause says: that memory is not said to be missing. What is said of whom is compared on stories.
+//! What no clause says: that no call reports want of memory while there is enough.
+//! What is said of whom is compared on stories.
 ghost use Rattle.std.specs.Prelude.{◌≡◌, IsTrue};
 ghost use Rattle.ax_base.specs.Document.{root, has};
 

@@ -1,4 +1,5 @@
-//! What no clause says: that memory is not said to be missing. Which inputs are refused, and for what, is compared on stories.
+//! What no clause says: that no call reports want of memory while there is enough.
+//! Which inputs are refused, and for what, is compared on stories.
 use ax_base::ObjId;
 use std::test::Fail;
 use story_check::{accept, accept_last, base_dom, last_dom};

@@ -1,4 +1,5 @@
-//! What no clause says: that memory is not said to be missing. What a tree holds is compared on stories.
+//! What no clause says: that no call reports want of memory while there is enough.
+//! What a tree holds is compared on stories.
 ghost use Rattle.std.specs.Prelude.{◌≡◌};
 
 use ax_base::{Attrs, ObjId, Steps, Text};

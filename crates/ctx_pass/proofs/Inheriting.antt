@@ -7,11 +7,11 @@ use Rattle.std.proofs.lemmas.Bool.Decides.{eqb_tells}
 use Rattle.ax_base.specs.Document.{Document, root, has, spot, parent, lineage, IsChild}
 use Rattle.ax_base.specs.Trees.{IsTree}
 use Rattle.ax_base.specs.Roles.{hides, prunes}
-use Rattle.ax_base.specs.Context.{is_hidden, is_pruned}
+use Rattle.ax_base.specs.Context.{is_hidden, is_presentational_descendant}
 use Rattle.ax_base.proofs.KidsLaws.{ancestors-child, lineage-ancestors, live-child, live-root}
 use Rattle.ax_base.proofs.Places.{has_children, lineage-child, lineage-root, parent-child, parent-root}
 use Rattle.ax_dom.specs.declared.cell.Cell.{Cell}
-use Rattle.ax_dom.specs.Slots.{cell_of, cell_at}
+use Rattle.ax_dom.specs.NodeMaps.{cell_of, cell_at}
 use Rattle.ctx_pass.specs.declared.contexts.Context.{Context}
 use Rattle.ctx_pass.specs.declared.standing.Standing.{Standing}
 use Rattle.ctx_pass.specs.Contexts.{context_of, outside, inherited, passed_on, standing, standing_of, handed_on, IsContextKept}
@@ -20,7 +20,7 @@ module _ (d : Document) (t : IsTree d) where
   hidden_child : (n c : ℕ) → IsChild d n c → is_hidden d c ≡ (hides (spot d c) || is_hidden d n)
   hidden_child n c child = ap (list_any (λ a. hides (spot d a))) (lineage-child d t n c child)
 
-  pruned_child : (n c : ℕ) → IsChild d n c → is_pruned d c ≡ (prunes (spot d n) || is_pruned d n)
+  pruned_child : (n c : ℕ) → IsChild d n c → is_presentational_descendant d c ≡ (prunes (spot d n) || is_presentational_descendant d n)
   pruned_child n c child = ap (list_any (λ a. prunes (spot d a))) (ancestors-child d t n c child ∙ lineage-ancestors d t n (has_children d n c child))
 
   -- a child has what its parent hands on, with what it sets itself

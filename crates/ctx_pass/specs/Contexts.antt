@@ -6,7 +6,7 @@ use Rattle.std.specs.Map.{lookup}
 use Rattle.std.specs.BTreeMap.{is_at}
 use Rattle.ax_base.specs.declared.states.Live.TheVariants.{Off}
 use Rattle.ax_base.specs.Document.{Document, Spot, spot, has}
-use Rattle.ax_base.specs.Context.{is_hidden, is_pruned, live_at}
+use Rattle.ax_base.specs.Context.{is_hidden, is_presentational_descendant, live_at}
 use Rattle.ax_base.specs.Roles.{hides, prunes}
 use Rattle.ax_base.specs.States.{sets_live}
 use Rattle.ctx_pass.specs.declared.contexts.Context.{Context}
@@ -15,7 +15,7 @@ use Rattle.ctx_pass.specs.Marks.{is_marked}
 
 -- the context of a node: whether it is hidden, whether it is pruned, and its live
 abbrev pub context_of : Document → ℕ → Context
-context_of d n = record { hidden = is_hidden d n; pruned = is_pruned d n; live = live_at d n }
+context_of d n = record { hidden = is_hidden d n; pruned = is_presentational_descendant d n; live = live_at d n }
 
 -- what the root takes over: nothing above it hides, leaves out or sets a live
 abbrev pub outside : Context

@@ -20,7 +20,7 @@ use Rattle.ax_dom.proofs.Amended.{kind_stays}
 use Rattle.ax_dom.proofs.Bounded.{no_runs_within, no_frame_within}
 use Rattle.ax_dom.proofs.Few.{few_nodes}
 use Rattle.ax_dom.proofs.Fitting.{text_fits}
-use Rattle.ax_dom.proofs.MovedSlots.{root_above}
+use Rattle.ax_dom.proofs.MovedEntries.{root_above}
 use Rattle.ax_dom.proofs.Subtrees.{lineage_within_subtree}
 use Rattle.dirty_set.specs.Marking.{marked, key_of}
 use Rattle.dirty_set.proofs.Tests.{none_at}

@@ -10,7 +10,7 @@ use Rattle.ax_base.specs.Trees.{IsTree}
 use Rattle.ax_base.specs.Roles.{hides, prunes, ignored}
 use Rattle.ax_base.specs.Kids.{standing, kids_from, kids}
 use Rattle.ax_base.specs.Said.{said0_from, said0, said_all_from, said_all}
-use Rattle.ax_base.specs.Context.{is_hidden, is_pruned, is_out, first_live, live_at}
+use Rattle.ax_base.specs.Context.{is_hidden, is_presentational_descendant, is_out, first_live, live_at}
 use Rattle.ax_base.proofs.Below.{from_below_same}
 use Rattle.ax_base.proofs.Joins.{Contains-cases}
 use Rattle.ax_base.proofs.Membership.{Contains-head, Contains-tail}
@@ -147,7 +147,7 @@ module _ (old now : Document) (m : Marked) (s : Follows old now m) where
       go None is inside = absurd (omega arith)
       go (Some p) is inside = own_above p a (parent_unrooted n p un is) inside
 
-  pub pruned_same : (n : ℕ) → IsUnrooted n → is_pruned old n ≡ is_pruned now n
+  pub pruned_same : (n : ℕ) → IsUnrooted n → is_presentational_descendant old n ≡ is_presentational_descendant now n
   pruned_same n un =
       ap (list_any (λ a. prunes (spot old a))) (ancestors_same n un)
       ∙ any_same (λ a. prunes (spot old a)) (λ a. prunes (spot now a)) (ancestors now n) (λ a inside. ap (λ (o : Own). o.prunes) (ancestor_above n a un inside))

@@ -8,7 +8,7 @@ use Rattle.ax_base.specs.declared.body.Body.TheVariants.{Words}
 use Rattle.ax_base.specs.Characters.{Chars}
 use Rattle.ax_base.specs.Document.{Document, Node, node, body, has, attr}
 use Rattle.ax_dom.specs.declared.cell.Cell.{Cell}
-use Rattle.ax_dom.specs.Slots.{cell_of, cell_at}
+use Rattle.ax_dom.specs.NodeMaps.{cell_of, cell_at}
 use Rattle.dom_ids.specs.References.{listed, label_for, carried}
 use Rattle.dirty_set.specs.Marking.{carried_by_all}
 

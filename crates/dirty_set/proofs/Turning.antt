@@ -18,7 +18,7 @@ use Rattle.ax_base.proofs.Places.{among_ids}
 use Rattle.ax_base.proofs.Rising.{rising_same}
 use Rattle.ax_dom.specs.declared.edit.Edit.{Edit}
 use Rattle.ax_dom.specs.declared.cell.Cell.{Cell}
-use Rattle.ax_dom.specs.Slots.{cell_of, cell_at}
+use Rattle.ax_dom.specs.NodeMaps.{cell_of, cell_at}
 use Rattle.ax_dom.specs.Changes.{edited}
 use Rattle.ax_dom.specs.Refusals.{edit_cause}
 use Rattle.ax_dom.specs.Used.{is_used}

@@ -21,7 +21,7 @@ use Rattle.ax_base.proofs.Lookups.{finds_same, list_any-insert_key, rising-inser
 use Rattle.ax_dom.specs.declared.cell.Cell.{Cell}
 use Rattle.ax_dom.specs.Among.{is_in}
 use Rattle.ax_dom.specs.Places.{without}
-use Rattle.ax_dom.specs.Slots.{cell_at, cell_of}
+use Rattle.ax_dom.specs.NodeMaps.{cell_at, cell_of}
 use Rattle.ax_dom.proofs.Halving.{key_there}
 use Rattle.ax_dom.proofs.Without.{without_cases, without_none}
 use Rattle.dom_ids.specs.declared.change.Change.{Change}

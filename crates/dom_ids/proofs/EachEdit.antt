@@ -43,7 +43,7 @@ use Rattle.ax_dom.proofs.Few.{few_nodes}
 use Rattle.ax_dom.proofs.Fitting.{text_fits}
 use Rattle.ax_dom.proofs.Inserts.{children_is, old_apart, has_cases, body_kept}
 use Rattle.ax_dom.proofs.Moved.{children_unhung, children_moved, has_moved, body_moved}
-use Rattle.ax_dom.proofs.MovedSlots.{root_above}
+use Rattle.ax_dom.proofs.MovedEntries.{root_above}
 use Rattle.ax_dom.proofs.Removed.{children_outside, body_outside, left_outside, left_was, is_within_from}
 use Rattle.ax_dom.proofs.Subtrees.{subtree_unfolds, subtree_has, within_child, within_level, lineage_within_subtree}
 use Rattle.ax_dom.proofs.Without.{without_cases, without_none}

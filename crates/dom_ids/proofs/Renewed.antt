@@ -14,7 +14,7 @@ use Rattle.ax_base.specs.AccessibleNames.{is_label_for}
 use Rattle.ax_base.specs.Trees.{IsTree}
 use Rattle.ax_base.proofs.Lookups.{finds}
 use Rattle.ax_dom.specs.Among.{is_in}
-use Rattle.ax_dom.specs.Slots.{cell_at}
+use Rattle.ax_dom.specs.NodeMaps.{cell_at}
 use Rattle.ax_dom.specs.Subtrees.{subtree}
 use Rattle.dom_ids.specs.declared.change.Change.{Change}
 use Rattle.dom_ids.specs.declared.change.Change.TheVariants.{Comes, Goes}

@@ -1,5 +1,5 @@
-//! Calls of the crates that keep something from edit to edit, each once with ample memory: that it is not said to be missing is
-//! what no clause says.
+//! Calls of the crates that keep something from edit to edit, each once with ample memory: no clause
+//! says that want of memory is not reported then.
 #![tactic(auto)]
 
 #[cfg(test)]

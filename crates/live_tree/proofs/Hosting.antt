@@ -21,8 +21,8 @@ use Rattle.ax_base.proofs.Objects.{objects_shown, objects_hung, root_is_object}
 use Rattle.ax_base.proofs.Places.{parent-child, parent-root}
 use Rattle.ax_dom.specs.Among.{is_in}
 use Rattle.ax_fresh.proofs.Above.{find_above, find_here}
-use Rattle.ax_record.specs.Records.{holder, is_object}
-use Rattle.ax_record.proofs.TreeOf.{object_is, is_one, holder_is, holder-root}
+use Rattle.ax_record.specs.Records.{object_parent, is_object}
+use Rattle.ax_record.proofs.TreeOf.{object_is, is_one, object_parent_is, object_parent-root}
 use Rattle.node_order.specs.Orders.{IsFromAbove}
 use Rattle.live_tree.specs.Hosts.{host, host_at, host_below, host_above, host_kept, AreHostsOf}
 
@@ -65,10 +65,10 @@ module _ (d : Document) (t : IsTree d) where
       by_child r n p c.0 up c.1 (λ below. let deep = t.deeper r c.0 c.1 in let shallow = t.shallow c.0 in under l c.0 n p (omega arith) below up) (is_out d c.0) (ignored (spot d c.0)) refl c.2
 
   -- an object hangs on the host of its parent
-  pub holder_host : (n p : ℕ) → Contains (objects d) n → IsChild d p n → holder d n ≡ host d p
-  holder_host n p object up = elim (objects_hung d t n object) [
+  pub object_parent_host : (n p : ℕ) → Contains (objects d) n → IsChild d p n → object_parent d n ≡ host d p
+  object_parent_host n p object up = elim (objects_hung d t n object) [
     | inl is ↦ (let deep = t.deeper p n up in let low = t.root_level in let same : t.level root ≡ t.level n = ap t.level is in absurd (omega arith))
-    | inr (q, one, kid) ↦ holder_is d t q n one kid ∙ sym (find_here d (is_object d) q (is_one d t q one)) ∙ sym (under (64 - t.level q) q n p (omega arith) kid up)
+    | inr (q, one, kid) ↦ object_parent_is d t q n one kid ∙ sym (find_here d (is_object d) q (is_one d t q one)) ∙ sym (under (64 - t.level q) q n p (omega arith) kid up)
   ]
 
   module _ (hosts : List (ℕ × Option ℕ)) (n : ℕ) (there : has d n ≡ true) (kept : (p : ℕ) → IsChild d p n → host_at hosts p ≡ host_kept d p) where
@@ -83,10 +83,10 @@ module _ (d : Document) (t : IsTree d) where
     above_is p up = ap (host_above hosts) (parent-child d t p n up) ∙ below_is p up
 
     -- an object hangs on what is kept of its parent
-    pub object_hangs : (above : Option ℕ) → above ≡ host_above hosts (parent d n) → is_object d n ≡ true → above ≡ holder d n
+    pub object_hangs : (above : Option ℕ) → above ≡ host_above hosts (parent d n) → is_object d n ≡ true → above ≡ object_parent d n
     object_hangs above is on = is ∙ elim (eqb_tells n root) [
-      | inl (_, same) ↦ ap (host_above hosts) (ap (parent d) same ∙ parent-root d t) ∙ sym (holder-root d t) ∙ ap (holder d) (sym same)
-      | inr (_, apart) ↦ (let up = t.hung n there apart in above_is up.0 up.1 ∙ sym (holder_host n up.0 (object_is d t n on) up.1))
+      | inl (_, same) ↦ ap (host_above hosts) (ap (parent d) same ∙ parent-root d t) ∙ sym (object_parent-root d t) ∙ ap (object_parent d) (sym same)
+      | inr (_, apart) ↦ (let up = t.hung n there apart in above_is up.0 up.1 ∙ sym (object_parent_host n up.0 (object_is d t n on) up.1))
     ]
 
     -- the children of any other node hang on the same

@@ -25,7 +25,7 @@ use Rattle.ax_base.proofs.Membership.{Contains-head}
 use Rattle.ax_base.proofs.Objects.{objects_known, objects_shown, kids_are_objects}
 use Rattle.ax_dom.specs.Among.{is_in}
 use Rattle.ax_dom.specs.declared.cell.Cell.{Cell}
-use Rattle.ax_dom.specs.Slots.{cell_of, cell_at}
+use Rattle.ax_dom.specs.NodeMaps.{cell_of, cell_at}
 use Rattle.ax_roles.specs.Inclusion.{inclusion_by, is_object_by, inclusion}
 use Rattle.ax_fresh.specs.Contents.{record_by}
 use Rattle.ax_fresh.specs.Gathering.{with_records}
@@ -33,7 +33,7 @@ use Rattle.ax_fresh.proofs.Put.{with_records-append}
 use Rattle.ax_record.specs.declared.record.Record.{Record}
 use Rattle.ax_record.specs.Tree.{Tree, entry_at, record_at, kids_of, IsKid}
 use Rattle.ax_record.specs.ObjectTrees.{IsObjectTree}
-use Rattle.ax_record.specs.Records.{tree, record_of, holder, is_object, frame_of, chars_of, runs_of}
+use Rattle.ax_record.specs.Records.{tree, record_of, object_parent, is_object, frame_of, chars_of, runs_of}
 use Rattle.ax_record.proofs.TreeOf.{object_is, is_one, record_is, kids_are, kid_is}
 use Rattle.tree_diff.specs.Alike.{IsAlike}
 use Rattle.tree_diff.specs.Lost.{lost}
@@ -69,7 +69,7 @@ rects_within d t n c is = subst (λ (x : Cell). HasRectsWithin x.body) (sym (a_c
 
 -- the record that is made of it, with what is known of the node, is that of the node
 pub made_of : (d : Document) (n : ℕ) (c : Cell) (of : Role) (at : Live) (above : Option ℕ) (below : List ℕ) (name description : Chars) → c ≡ cell_of d n → of ≡ role_of (n == root) c.body → at ≡ live_at d n
-    → above ≡ holder d n → below ≡ kids d n → name ≡ name_of d n → description ≡ description_of d n → record_by c of at above below name description ≡ record_of d n
+    → above ≡ object_parent d n → below ≡ kids d n → name ≡ name_of d n → description ≡ description_of d n → record_by c of at above below name description ≡ record_of d n
 made_of d n c of at above below name description is role_is live_is above_is below_is name_is description_is =
     let whole : of ≡ role_of (n == root) (body d n) = role_is ∙ ap (λ (x : Cell). role_of (n == root) x.body) is in
     λ i. record_by (is i) (whole i) (live_is i) (above_is i) (below_is i) (name_is i) (description_is i)
@@ -258,7 +258,7 @@ module _ (old now : Document) (u : IsTree old) (t : IsTree now) (n : ℕ) (same 
       ∙ ap (λ b. not (ignored (record { id = n; body = b }))) same.body_same
       ∙ ap not (objects_shown now t n object)
 
-  pub moved_record : record_of now n ≡ hung_elsewhere (record_of old n) (holder now n)
+  pub moved_record : record_of now n ≡ hung_elsewhere (record_of old n) (object_parent now n)
   moved_record = sym (λ i. record {
     id = n;
     role = role (record { id = n; body = same.body_same i });
@@ -271,12 +271,12 @@ module _ (old now : Document) (u : IsTree old) (t : IsTree now) (n : ℕ) (same 
     frame = frame_of (same.body_same i);
     text = chars_of (same.body_same i);
     runs = runs_of (same.body_same i);
-    parent = holder now n;
+    parent = object_parent now n;
     kids = same.kids_are i;
   })
 
   -- it is put in with the object that it hangs on now
-  pub moved_put : (es new : List (ℕ × Record)) (copied : Record) (above : ℕ) → new ≡ insert_entry nat_cmp es copied.id (hung_elsewhere copied (Some above)) → Some copied ≡ Some (record_of old n) → holder now n ≡ Some above
+  pub moved_put : (es new : List (ℕ × Record)) (copied : Record) (above : ℕ) → new ≡ insert_entry nat_cmp es copied.id (hung_elsewhere copied (Some above)) → Some copied ≡ Some (record_of old n) → object_parent now n ≡ Some above
       → new ≡ insert_entry nat_cmp es n (record_of now n)
   moved_put es new copied above is found held =
       let same : copied ≡ record_of old n = cc in

@@ -7,9 +7,9 @@ ghost use Rattle.ax_base.specs.AccessibleNames.{name_of, description_of};
 ghost use Rattle.ax_base.specs.Document.{Document, has, IsChild};
 ghost use Rattle.ax_base.specs.Trees.{IsTree};
 ghost use Rattle.ax_notice.specs.Candidates.{AreCandidates};
-ghost use Rattle.ax_record.specs.Records.{tree, record_of, holder, is_object, focused_object};
+ghost use Rattle.ax_record.specs.Records.{tree, record_of, object_parent, is_object, focused_object};
 ghost use Rattle.ax_dom.specs.Among.{is_in, IsClosedUp};
-ghost use Rattle.ax_dom.specs.Slots.{cell_at};
+ghost use Rattle.ax_dom.specs.NodeMaps.{cell_at};
 ghost use Rattle.ax_fresh.specs.Gathering.{with_records};
 ghost use Rattle.ctx_pass.specs.Contexts.{AreContextsOf};
 ghost use Rattle.said_pass.specs.Saids.{AreSaidsOf};
@@ -208,7 +208,7 @@ impl Renewal<'_> {
     ) -> Result<(), NoMemory>
         requires present { IsPresent self.now.dom.now self.now.passes.now self.now.nodes.now }
         requires cell { Some cell.now ≡ cell_at self.now.dom.now id }
-        requires parent { parent ≡ holder self.now.dom.now id }
+        requires parent { parent ≡ object_parent self.now.dom.now id }
         ensures { OnOk result (records.new ≡ insert_entry nat_cmp records.old id (record_of self.now.dom.now id)) }
     {
         let alloc = self.alloc;

@@ -4,7 +4,7 @@ use Rattle.turn_word.specs.declared.view.PageRecord.{PageRecord}
 use Rattle.ax_port.specs.States.{PageState, SamePage}
 use Rattle.story_check.specs.declared.story.PageLine.{PageLine}
 use Rattle.story_check.specs.declared.story.PageLine.TheVariants.{Until}
-use Rattle.story_check.specs.Stories.{Script, flushes, cap, untils_met}
+use Rattle.story_check.specs.Stories.{Story, flushes, cap, untils_met}
 use Rattle.story_check.specs.Moments.{after_flushes, document_at, tree_at, AreLinesAccepted}
 use Rattle.page_thread.specs.declared.ends.PageEnd.{PageEnd}
 use Rattle.page_thread.specs.declared.ends.PageEnd.TheVariants.{Done, NoMemory, Ended}
@@ -26,13 +26,13 @@ pub record WaitsAt (page : List PageLine) (need have : ℕ) : Type 0 where
   pub more : have < need
 
 -- what each end says
-abbrev pub PageDid : Script → PageRecord → PageEnd → Type 0
+abbrev pub PageDid : Story → PageRecord → PageEnd → Type 0
 PageDid s r Done = (r.published ≡ flushes s.page) × (untils_met r.seen s.page ≡ true)
 PageDid s r NoMemory = Unit {0}
 PageDid s r (Ended need have) = (r.seen ≡ have) × (r.seen_over ≡ true) × WaitsAt s.page need have × (r.published ≡ cap s.page have)
 
 -- the worker between two lines: which are left, and what it made of those before
-pub record PageStands (s : Script) (left : List PageLine) (r : PageRecord) (side : Side) : Type 0 where
+pub record PageStands (s : Story) (left : List PageLine) (r : PageRecord) (side : Side) : Type 0 where
   pub before : List PageLine
   pub is : s.page ≡ before ++ left
   pub few : flushes s.page ≤ 65537
@@ -45,6 +45,6 @@ pub record PageStands (s : Script) (left : List PageLine) (r : PageRecord) (side
   pub accepted : AreLinesAccepted side.live.document left
 
 -- a line was done, or the worker ends there
-abbrev pub LineDid : Script → List PageLine → PageRecord → Result Side PageEnd → Type 0
+abbrev pub LineDid : Story → List PageLine → PageRecord → Result Side PageEnd → Type 0
 LineDid s left r (Ok side) = PageStands s left r side
 LineDid s left r (Err end) = PageDid s r end

@@ -8,7 +8,7 @@ use ax_base::{Attrs, NoMemory, ObjId, is_field};
 use ax_names::{Piece, is_button_field, pieces_tell};
 use std::alloc::Global;
 
-/// What is kept of the label that the host language gives to an element.
+/// The name part for the label that the host language gives to an element.
 pub(crate) fn host_label(
     alloc: Global,
     sources: &Sources<'_>,
@@ -30,7 +30,7 @@ pub(crate) fn host_label(
     labelled(alloc, sources, attrs.text("id"), id)
 }
 
-/// What is kept of what the first `label` for an id says, where that id names the node.
+/// The name part for what the first `label` for an id says, where that id names the node.
 fn labelled(alloc: Global, sources: &Sources<'_>, text: &str, id: ObjId) -> Result<Piece, NoMemory>
     ensures { IfOk result (λ p. p ≡ piece_of (labelled_text sources.now text.now id)) }
 {

@@ -10,7 +10,7 @@ use ax_base::{MAX_REFERENCES, NoMemory, first_token};
 use ax_names::{Piece, pieces_tell};
 use std::alloc::Global;
 
-/// What is kept of what the first eight tokens of a text refer to, joined by single spaces.
+/// The name part for what the first eight tokens of a text refer to, joined by single spaces.
 pub(crate) fn referred_by(
     alloc: Global,
     sources: &Sources<'_>,
@@ -24,7 +24,7 @@ pub(crate) fn referred_by(
     Ok(joined)
 }
 
-/// What is kept of what the first eight tokens of a text refer to, each behind a space.
+/// The name part for what the first eight tokens of a text refer to, each behind a space.
 fn all_referred(alloc: Global, sources: &Sources<'_>, text: &str) -> Result<Piece, NoMemory>
     ensures { IfOk result (λ p. p ≡ piece_of (said_by_tokens sources.now text.now)) }
 {

@@ -6,7 +6,7 @@ use Rattle.story_check.specs.declared.story.PageLine.{PageLine}
 use Rattle.story_check.specs.declared.story.PageLine.TheVariants.{Change, Flush, Until}
 use Rattle.story_check.specs.declared.story.ClientLine.{ClientLine}
 use Rattle.story_check.specs.declared.story.ClientLine.TheVariants.{Ask, Again, Hear, Await, Notices}
-use Rattle.story_check.specs.Stories.{Script, flushes, cap, awaited, awaits_met, untils_met, stuck}
+use Rattle.story_check.specs.Stories.{Story, flushes, cap, awaited, awaits_met, untils_met, stuck}
 
 if_le : (b : Bool) (n m : ℕ) → n ≤ m → (if b then 0 else n) ≤ m
 if_le true n m h = omega arith
@@ -105,11 +105,11 @@ awaits_left page g (Hear ∷ xs) left e = awaits_left page g xs left e
 awaits_left page g (Notices ∷ xs) left e = awaits_left page g xs left e
 
 -- what a story that is not stuck has
-pub record Goes (s : Script) : Type 0 where
+pub record Goes (s : Story) : Type 0 where
   pub awaits : awaits_met s.page 0 s.client ≡ true
   pub untils : untils_met (awaited 0 s.client) s.page ≡ true
 
-pub goes : (s : Script) → stuck s ≡ false → Goes s
+pub goes : (s : Story) → stuck s ≡ false → Goes s
 goes s e = let both = not_false _ e in record { awaits = and_left _ _ both; untils = and_right _ _ both }
   where
     not_false : (b : Bool) → not b ≡ false → b ≡ true

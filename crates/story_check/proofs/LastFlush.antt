@@ -7,7 +7,7 @@ use Rattle.story_check.specs.declared.story.PageLine.{PageLine}
 use Rattle.story_check.specs.declared.story.PageLine.TheVariants.{Change, Flush, Until}
 use Rattle.story_check.specs.Stories.{flushes, unflushed, closed}
 use Rattle.story_check.specs.Moments.{after_edits, after_flushes, document_at}
-use Rattle.story_check.specs.Acceptance.{Progress, story_of}
+use Rattle.story_check.specs.Acceptance.{LinesRead, story_of}
 use Rattle.story_check.proofs.Caps.{flushes_with}
 use Rattle.story_check.proofs.Flushed.{change_same, until_same, flush_same}
 use Rattle.story_check.proofs.Sound.{IsSound, after_page}
@@ -54,6 +54,6 @@ closed_last d xs = through (unflushed false xs) refl
     through false e = at_last d xs e
 
 -- the document after all edits is the one of the last moment
-pub last_document : (p : Progress) → IsSound p → document_at (story_of p) (flushes (closed p.page)) ≡ p.document
+pub last_document : (p : LinesRead) → IsSound p → document_at (story_of p) (flushes (closed p.page)) ≡ p.document
 unfolding document_at
 last_document p h = closed_last (after_edits new_document p.base) p.page ∙ h.now

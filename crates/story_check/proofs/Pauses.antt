@@ -7,8 +7,8 @@ use Rattle.story_check.specs.declared.story.PageLine.TheVariants.{Change, Flush,
 use Rattle.story_check.specs.declared.story.ClientLine.{ClientLine}
 use Rattle.story_check.specs.declared.story.ClientLine.TheVariants.{Ask, Again, Hear, Await, Notices}
 use Rattle.story_check.specs.declared.refusals.Cause.TheVariants.{Stuck}
-use Rattle.story_check.specs.Stories.{Script, flushes, cap, awaited, awaits_met, untils_met, stuck, unflushed}
-use Rattle.story_check.specs.Acceptance.{await_refusal, story_refusal, whole}
+use Rattle.story_check.specs.Stories.{Story, flushes, cap, awaited, awaits_met, untils_met, stuck, unflushed}
+use Rattle.story_check.specs.Acceptance.{await_refusal, story_refusal, input_refusal}
 use Rattle.story_check.specs.Holding.{pauses, story_kept}
 
 pub flushes-pauses : (xs : List PageLine) → flushes (pauses xs) ≡ flushes xs
@@ -49,18 +49,18 @@ unflushed-append b (Change e ∷ xs) ys = unflushed-append true xs ys
 unflushed-append b (Flush ∷ xs) ys = unflushed-append false xs ys
 unflushed-append b (Until k ∷ xs) ys = unflushed-append b xs ys
 
-stuck-kept : (keeps : Bool) (s : Script) → stuck (story_kept keeps s) ≡ stuck s
+stuck-kept : (keeps : Bool) (s : Story) → stuck (story_kept keeps s) ≡ stuck s
 stuck-kept true s = refl
 stuck-kept false s = λ i. not (awaits-pauses s.page 0 s.client i && untils-pauses s.page (awaited 0 s.client) i)
 
-pub flushes-kept : (keeps : Bool) (s : Script) → flushes (story_kept keeps s).page ≡ flushes s.page
+pub flushes-kept : (keeps : Bool) (s : Story) → flushes (story_kept keeps s).page ≡ flushes s.page
 flushes-kept true s = refl
 flushes-kept false s = flushes-pauses s.page
 
-pub client-kept : (keeps : Bool) (s : Script) → (story_kept keeps s).client ≡ s.client
+pub client-kept : (keeps : Bool) (s : Story) → (story_kept keeps s).client ≡ s.client
 client-kept true s = refl
 client-kept false s = refl
 
 -- what is refused of a story is refused of it without its edits
-pub refusal-kept : (keeps : Bool) (s : Script) (awaits : List (ℕ × ℕ)) → story_refusal (story_kept keeps s) awaits ≡ story_refusal s awaits
-refusal-kept keeps s awaits = λ i. option_or (await_refusal (flushes-kept keeps s i) awaits) (if stuck-kept keeps s i then Some (whole Stuck) else None)
+pub refusal-kept : (keeps : Bool) (s : Story) (awaits : List (ℕ × ℕ)) → story_refusal (story_kept keeps s) awaits ≡ story_refusal s awaits
+refusal-kept keeps s awaits = λ i. option_or (await_refusal (flushes-kept keeps s i) awaits) (if stuck-kept keeps s i then Some (input_refusal Stuck) else None)

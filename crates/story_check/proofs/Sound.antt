@@ -20,9 +20,9 @@ use Rattle.story_check.specs.declared.story.PageLine.TheVariants.{Change, Flush,
 use Rattle.story_check.specs.declared.refusals.Cause.{Cause}
 use Rattle.story_check.specs.declared.refusals.Refusal.{Refusal}
 use Rattle.story_check.specs.declared.refusals.AcceptFail.{AcceptFail}
-use Rattle.story_check.specs.Stories.{Script, unflushed, closed, stuck}
+use Rattle.story_check.specs.Stories.{Story, unflushed, closed, stuck}
 use Rattle.story_check.specs.Moments.{after_edits, MayBeDone, AreAccepted, AreLinesAccepted, IsAccepted}
-use Rattle.story_check.specs.Acceptance.{Progress, at_first, cause_of, read_cause, line_cause, line_effect, with_edit, unless, after_line, after_lines, story_of, end_refusal, accept_unless, at_end, ended, judged_lines, Accepts}
+use Rattle.story_check.specs.Acceptance.{LinesRead, at_first, cause_of, read_cause, line_cause, line_effect, with_edit, unless, after_line, after_lines, story_of, end_refusal, accept_unless, at_end, ended, judged_lines, Accepts}
 
 -- the document after all edits of these lines
 abbrev pub after_page : Document → List PageLine → Document
@@ -32,7 +32,7 @@ after_page d (Flush ∷ xs) = after_page d xs
 after_page d (Until k ∷ xs) = after_page d xs
 
 -- all edits so far are accepted, and the document is the one after them
-pub record IsSound (p : Progress) : Type 0 where
+pub record IsSound (p : LinesRead) : Type 0 where
   pub base : AreAccepted new_document p.base
   pub lines : AreLinesAccepted (after_edits new_document p.base) p.page
   pub now : after_page (after_edits new_document p.base) p.page ≡ p.document
@@ -122,11 +122,11 @@ free_edit d e h = through (edit_cause d e) h (never d e)
     through None g k = refl
     through (Some c) g k = absurd (known c (k c refl) g)
 
-unless-ok : (n : ℕ) (c : Option Cause) (p q : Progress) → unless n c p ≡ Ok q → (c ≡ None) × (p ≡ q)
+unless-ok : (n : ℕ) (c : Option Cause) (p q : LinesRead) → unless n c p ≡ Ok q → (c ≡ None) × (p ≡ q)
 unless-ok n None p q e = (refl, cc)
 unless-ok n (Some c) p q e = absurd (cc)
 
-sound-edit : (p : Progress) (e : Edit) → edit_cause p.document e ≡ None → EditKeepsBounds e → IsSound p → IsSound (with_edit e (record p { document = edited p.document e }))
+sound-edit : (p : LinesRead) (e : Edit) → edit_cause p.document e ≡ None → EditKeepsBounds e → IsSound p → IsSound (with_edit e (record p { document = edited p.document e }))
 sound-edit p e c near h = through p.started refl
   where
     base : Document
@@ -153,7 +153,7 @@ sound-edit p e c near h = through p.started refl
           unstarted = h.unstarted;
         }
 
-sound-page : (p : Progress) (l : PageLine) → ((b : Document) → after_page b (l ∷ []) ≡ b) → ((b : Document) → AreLinesAccepted b (l ∷ [])) → p.started ≡ true → IsSound p → IsSound (record p { page = p.page ++ l ∷ [] })
+sound-page : (p : LinesRead) (l : PageLine) → ((b : Document) → after_page b (l ∷ []) ≡ b) → ((b : Document) → AreLinesAccepted b (l ∷ [])) → p.started ≡ true → IsSound p → IsSound (record p { page = p.page ++ l ∷ [] })
 sound-page p l same free s h = record {
   base = h.base;
   lines = still-accepted (after_edits new_document p.base) p.page l free h.lines;
@@ -162,7 +162,7 @@ sound-page p l same free s h = record {
 }
 
 -- lines that change no edit keep this
-sound-beside : (p q : Progress) → q.document ≡ p.document → q.base ≡ p.base → q.page ≡ p.page → (q.started ≡ false → p.started ≡ false) → IsSound p → IsSound q
+sound-beside : (p q : LinesRead) → q.document ≡ p.document → q.base ≡ p.base → q.page ≡ p.page → (q.started ≡ false → p.started ≡ false) → IsSound p → IsSound q
 sound-beside p q d b x s h = record {
   base = subst (λ (es : List Edit). AreAccepted new_document es) (sym b) h.base;
   lines = subst (λ (xs : List PageLine). AreLinesAccepted (after_edits new_document q.base) xs) (sym x) (subst (λ (es : List Edit). AreLinesAccepted (after_edits new_document es) p.page) (sym b) h.lines);
@@ -175,7 +175,7 @@ started-first : (b : Bool) (o : Option Cause) (c : Cause) → (if not b then Som
 started-first true o c e = refl
 started-first false o c e = absurd (cc)
 
-sound-line : (n : ℕ) (p : Progress) (line : Line) → line_cause p line ≡ None → KeepsBounds line → IsSound p → IsSound (line_effect n p line)
+sound-line : (n : ℕ) (p : LinesRead) (line : Line) → line_cause p line ≡ None → KeepsBounds line → IsSound p → IsSound (line_effect n p line)
 sound-line n p (EditLine e) c near h = sound-edit p e (free_edit p.document e c) near h
 sound-line n p StartLine c near h = record { base = h.base; lines = h.lines; now = h.now; unstarted = λ f. absurd (cc) }
 sound-line n p FlushLine c near h = sound-page p Flush (λ b. refl) (λ b. tt) (started-first p.started _ _ c) h
@@ -187,16 +187,16 @@ sound-line n p (AwaitLine a) c near h = sound-beside p _ refl refl refl (λ f. f
 sound-line n p NoticesLine c near h = sound-beside p _ refl refl refl (λ f. f) h
 sound-line n p (TurnsLine t) c near h = sound-beside p _ refl refl refl (λ f. f) h
 
-sound-after : (n : ℕ) (p q : Progress) (r : Result (Option Line) LineFail) → ((line : Line) → r ≡ Ok (Some line) → KeepsBounds line) → IsSound p → after_line n p r ≡ Ok q → IsSound q
-sound-after n p q (Ok None) near h e = subst (λ (z : Progress). IsSound z) (unless-ok n None p q e).1 h
-sound-after n p q (Ok (Some line)) near h e = let both = unless-ok n (line_cause p line) (line_effect n p line) q e in subst (λ (z : Progress). IsSound z) both.1 (sound-line n p line both.0 (near line refl) h)
-sound-after n p q (Err fail) near h e = let both = unless-ok n (read_cause fail) p q e in subst (λ (z : Progress). IsSound z) both.1 h
+sound-after : (n : ℕ) (p q : LinesRead) (r : Result (Option Line) LineFail) → ((line : Line) → r ≡ Ok (Some line) → KeepsBounds line) → IsSound p → after_line n p r ≡ Ok q → IsSound q
+sound-after n p q (Ok None) near h e = subst (λ (z : LinesRead). IsSound z) (unless-ok n None p q e).1 h
+sound-after n p q (Ok (Some line)) near h e = let both = unless-ok n (line_cause p line) (line_effect n p line) q e in subst (λ (z : LinesRead). IsSound z) both.1 (sound-line n p line both.0 (near line refl) h)
+sound-after n p q (Err fail) near h e = let both = unless-ok n (read_cause fail) p q e in subst (λ (z : LinesRead). IsSound z) both.1 h
 
-pub sound-lines : (n : ℕ) (p q : Progress) (lines : List (List ℕ)) → IsSound p → after_lines n p lines ≡ Ok q → IsSound q
-sound-lines n p q [] h e = subst (λ (z : Progress). IsSound z) (unless-ok n None p q e).1 h
+pub sound-lines : (n : ℕ) (p q : LinesRead) (lines : List (List ℕ)) → IsSound p → after_lines n p lines ≡ Ok q → IsSound q
+sound-lines n p q [] h e = subst (λ (z : LinesRead). IsSound z) (unless-ok n None p q e).1 h
 sound-lines n p q (l ∷ ls) h e = through (after_line n p (line_of l)) (λ z. sound-after n p z (line_of l) (line_keeps_bounds l) h) e (λ z. sound-lines (n + 1) z q ls)
   where
-    through : (r : Result Progress Refusal) → ((z : Progress) → r ≡ Ok z → IsSound z) → elim r as (λ (w : Result Progress Refusal). Result Progress Refusal) [ Ok z ↦ after_lines (n + 1) z ls | Err z ↦ Err z ] ≡ Ok q → ((z : Progress) → IsSound z → after_lines (n + 1) z ls ≡ Ok q → IsSound q) → IsSound q
+    through : (r : Result LinesRead Refusal) → ((z : LinesRead) → r ≡ Ok z → IsSound z) → elim r as (λ (w : Result LinesRead Refusal). Result LinesRead Refusal) [ Ok z ↦ after_lines (n + 1) z ls | Err z ↦ Err z ] ≡ Ok q → ((z : LinesRead) → IsSound z → after_lines (n + 1) z ls ≡ Ok q → IsSound q) → IsSound q
     through (Ok z) f g more = more z (f z refl) g
     through (Err z) f g more = absurd (cc)
 
@@ -204,7 +204,7 @@ pub sound-first : IsSound at_first
 sound-first = record { base = tt; lines = tt; now = refl; unstarted = λ f. refl }
 
 -- what a story that is accepted has
-pub record IsGood (s : Script) : Type 0 where
+pub record IsGood (s : Story) : Type 0 where
   pub accepted : IsAccepted s
   pub free : stuck s ≡ false
 
@@ -214,7 +214,7 @@ free-end true None false w z e = refl
 free-end true (Some r) k w z e = absurd (cc)
 free-end false a k w z e = absurd (cc)
 
-good-end : (p : Progress) (s : Script) → IsSound p → at_end p ≡ Ok s → IsGood s
+good-end : (p : LinesRead) (s : Story) → IsSound p → at_end p ≡ Ok s → IsGood s
 good-end p s h e = through (end_refusal p) refl e
   where
     story : end_refusal p ≡ None → IsGood (story_of p)
@@ -227,12 +227,12 @@ good-end p s h e = through (end_refusal p) refl e
     same g = cc
 
     through : (o : Option Refusal) → end_refusal p ≡ o → accept_unless o (story_of p) ≡ Ok s → IsGood s
-    through None f g = subst (λ (z : Script). IsGood z) (same g) (story f)
+    through None f g = subst (λ (z : Story). IsGood z) (same g) (story f)
     through (Some z) f g = absurd (cc)
 
-pub good-lines : (lines : List (List ℕ)) (s : Script) → judged_lines lines ≡ Ok s → IsGood s
+pub good-lines : (lines : List (List ℕ)) (s : Story) → judged_lines lines ≡ Ok s → IsGood s
 good-lines lines s e = through (after_lines 1 at_first lines) refl e
   where
-    through : (r : Result Progress Refusal) → after_lines 1 at_first lines ≡ r → ended r ≡ Ok s → IsGood s
+    through : (r : Result LinesRead Refusal) → after_lines 1 at_first lines ≡ r → ended r ≡ Ok s → IsGood s
     through (Ok p) f g = good-end p s (sound-lines 1 at_first p lines sound-first f) g
     through (Err z) f g = absurd (cc)

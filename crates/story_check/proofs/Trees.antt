@@ -25,7 +25,7 @@ use Rattle.ax_dom.specs.Bodies.{body_after}
 use Rattle.ax_dom.specs.Bounds.{EditKeepsBounds}
 use Rattle.ax_dom.specs.Changes.{edited, inserted, removed, moved, with_body, with_focus, new_document, no_frame}
 use Rattle.ax_dom.specs.Refusals.{edit_cause, first_cause, lacks_node, reuses_id, lacks_place, wants_element, wants_text, goes_into_itself, removes_root, goes_too_deep, is_one_too_many, breaks_runs, is_too_long, has_wrong_runs, may_focus}
-use Rattle.ax_dom.specs.Slots.{document_of}
+use Rattle.ax_dom.specs.NodeMaps.{document_of}
 use Rattle.ax_dom.specs.Subtrees.{subtree}
 use Rattle.ax_dom.specs.Used.{is_used}
 use Rattle.ax_dom.proofs.Amended.{kind_stays, body_fits, shape_amended, body_here, body_apart}
@@ -35,14 +35,14 @@ use Rattle.ax_dom.proofs.Fitting.{text_fits}
 use Rattle.ax_dom.proofs.Fresh.{new_kept}
 use Rattle.ax_dom.proofs.Inserts.{tree_after, has_cases}
 use Rattle.ax_dom.proofs.Moved.{tree_moved, has_moved}
-use Rattle.ax_dom.proofs.MovedSlots.{root_above, list_any_member}
+use Rattle.ax_dom.proofs.MovedEntries.{root_above, list_any_member}
 use Rattle.ax_dom.proofs.Removed.{tree_left, left_was}
 use Rattle.ax_dom.proofs.RightRuns.{runs_after}
 use Rattle.ax_dom.proofs.Subtrees.{lineage_within_subtree}
 use Rattle.ax_record.proofs.TreeOf.{tree_hangs}
 use Rattle.story_check.specs.declared.story.PageLine.{PageLine}
 use Rattle.story_check.specs.declared.story.PageLine.TheVariants.{Change, Flush, Until}
-use Rattle.story_check.specs.Stories.{Script}
+use Rattle.story_check.specs.Stories.{Story}
 use Rattle.story_check.specs.Moments.{after_edits, after_flushes, document_at, tree_at, MayBeDone, AreAccepted, AreLinesAccepted, IsAccepted, AreTrees}
 
 -- a document that is a tree, and whose nodes but the root were inserted
@@ -225,6 +225,6 @@ grown_flushes d (Flush ∷ xs) (suc k) g a = grown_flushes d xs k g a
 grown_flushes d (Until j ∷ xs) (suc k) g a = grown_flushes d xs (suc k) g a
 
 -- the tree of each moment of an accepted story is a tree
-pub are_trees : (s : Script) → IsAccepted s → AreTrees s
+pub are_trees : (s : Story) → IsAccepted s → AreTrees s
 unfolding document_at tree_at
 are_trees s a k = tree_hangs (document_at s k) (grown_flushes (after_edits new_document s.base) s.page k (grown_edits new_document s.base grown_new a.base) a.lines).tree

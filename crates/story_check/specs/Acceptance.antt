@@ -26,12 +26,12 @@ use Rattle.story_check.specs.declared.refusals.Cause.TheVariants.{StoryTooLong, 
 use Rattle.story_check.specs.declared.refusals.Refusal.{Refusal}
 use Rattle.story_check.specs.declared.refusals.AcceptFail.{AcceptFail}
 use Rattle.story_check.specs.declared.refusals.AcceptFail.TheVariants.{Refused, NoMemory}
-use Rattle.story_check.specs.Stories.{Script, flushes, closed, stuck}
+use Rattle.story_check.specs.Stories.{Story, flushes, closed, stuck}
 use Rattle.story_check.specs.declared.limits.TheConstants.{MAX_CLIENT_LINES, MAX_FLUSHES, MAX_STORY_BYTES, MAX_TURNS}
 
 -- the lines so far: the document after all their edits, whether the start line came, the edits before it, the lines of the page and of
 -- the client, each moment awaited behind the number of its line, and the turns, once a turn list came
-pub record Progress : Type 0 where
+pub record LinesRead : Type 0 where
   pub document : Document
   pub started : Bool
   pub base : List Edit
@@ -41,7 +41,7 @@ pub record Progress : Type 0 where
   pub turns : Option (List Who)
 
 -- before the first line
-abbrev pub at_first : Progress
+abbrev pub at_first : LinesRead
 at_first = record { document = new_document; started = false; base = []; page = []; client = []; awaits = []; turns = None }
 
 -- the first cause whose test holds
@@ -49,7 +49,7 @@ abbrev pub first_cause : List (Bool × Cause) → Option Cause
 first_cause [] = None
 first_cause (t ∷ ts) = if t.0 then Some t.1 else first_cause ts
 
--- why a line has no reading; want of memory is no cause
+-- why a line cannot be read; want of memory is no cause
 abbrev pub read_cause : LineFail → Option Cause
 read_cause NoJson = Some BadJson
 read_cause NoForm = Some BadLine
@@ -83,11 +83,11 @@ abbrev pub side : ℕ → Who
 side b = if b == 80 then Page else Client
 
 -- why a line of the client is refused: it stands before the start, or behind 16,384 such lines
-abbrev pub client_cause : Progress → Option Cause
+abbrev pub client_cause : LinesRead → Option Cause
 client_cause p = first_cause ((not p.started, NoStart) ∷ (nat_le MAX_CLIENT_LINES (length p.client), TooManyAsks) ∷ [])
 
 -- why a line is refused after these: the causes of its kind in the order in which they are tried
-abbrev pub line_cause : Progress → Line → Option Cause
+abbrev pub line_cause : LinesRead → Line → Option Cause
 line_cause p (EditLine e) = option_and_then cause_of (edit_cause p.document e)
 line_cause p StartLine = first_cause ((p.started, SecondStart) ∷ [])
 line_cause p FlushLine = first_cause ((not p.started, NoStart) ∷ (nat_le MAX_FLUSHES (flushes p.page), TooManyFlushes) ∷ [])
@@ -100,23 +100,23 @@ line_cause p NoticesLine = client_cause p
 line_cause p (TurnsLine text) = first_cause ((not p.started, NoStart) ∷ (is_some p.turns || not (is_turn_list text), BadTurns) ∷ [])
 
 -- with an edit: before the start it is a base edit, after it a line of the page
-abbrev pub with_edit : Edit → Progress → Progress
+abbrev pub with_edit : Edit → LinesRead → LinesRead
 with_edit e p = if p.started then record p { page = p.page ++ Change e ∷ [] } else record p { base = p.base ++ e ∷ [] }
 
 -- with a line of the page that is no edit
-abbrev pub with_page : PageLine → Progress → Progress
+abbrev pub with_page : PageLine → LinesRead → LinesRead
 with_page l p = record p { page = p.page ++ l ∷ [] }
 
 -- with a line of the client
-abbrev pub with_client : ClientLine → Progress → Progress
+abbrev pub with_client : ClientLine → LinesRead → LinesRead
 with_client l p = record p { client = p.client ++ l ∷ [] }
 
 -- with an await of this moment on line n
-abbrev pub with_await : ℕ → ℕ → Progress → Progress
+abbrev pub with_await : ℕ → ℕ → LinesRead → LinesRead
 with_await n a p = record p { awaits = p.awaits ++ (n, a) ∷ [] }
 
 -- what a line that is not refused adds, at its number
-abbrev pub line_effect : ℕ → Progress → Line → Progress
+abbrev pub line_effect : ℕ → LinesRead → Line → LinesRead
 line_effect n p (EditLine e) = with_edit e (record p { document = edited p.document e })
 line_effect n p StartLine = record p { started = true }
 line_effect n p FlushLine = with_page Flush p
@@ -134,13 +134,13 @@ unless n None p = Ok p
 unless n (Some cause) p = Err (record { line = n; cause = cause })
 
 -- the line of number n after these; a blank line has no effect
-abbrev pub after_line : ℕ → Progress → Result (Option Line) LineFail → Result Progress Refusal
+abbrev pub after_line : ℕ → LinesRead → Result (Option Line) LineFail → Result LinesRead Refusal
 after_line n p (Ok None) = Ok p
 after_line n p (Ok (Some line)) = unless n (line_cause p line) (line_effect n p line)
 after_line n p (Err fail) = unless n (read_cause fail) p
 
 -- the first refusal of the lines from number n on, or what all of them come to
-abbrev pub after_lines : ℕ → Progress → List Chars → Result Progress Refusal
+abbrev pub after_lines : ℕ → LinesRead → List Chars → Result LinesRead Refusal
 after_lines n p [] = Ok p
 after_lines n p (l ∷ ls) = elim (after_line n p (line_of l)) [ Ok q ↦ after_lines (n + 1) q ls | Err refusal ↦ Err refusal ]
 
@@ -149,8 +149,8 @@ abbrev pub pieces : Chars → List Chars
 pieces bytes = slice_split (λ b. b == 10) bytes
 
 -- a refusal of the whole input
-abbrev pub whole : Cause → Refusal
-whole cause = record { line = 0; cause = cause }
+abbrev pub input_refusal : Cause → Refusal
+input_refusal cause = record { line = 0; cause = cause }
 
 -- the first await of a moment past all flushes, of which there are f
 abbrev pub await_refusal : ℕ → List (ℕ × ℕ) → Option Refusal
@@ -163,45 +163,45 @@ turns_of None = []
 turns_of (Some turns) = turns
 
 -- the story of all lines: its page has the closing flush
-abbrev pub story_of : Progress → Script
+abbrev pub story_of : LinesRead → Story
 story_of p = record { base = p.base; page = closed p.page; client = p.client; turns = turns_of p.turns }
 
 -- some line of the story could wait for ever
-abbrev pub stuck_refusal : Script → Option Refusal
-stuck_refusal s = if stuck s then Some (whole Stuck) else None
+abbrev pub stuck_refusal : Story → Option Refusal
+stuck_refusal s = if stuck s then Some (input_refusal Stuck) else None
 
 -- what is refused of a whole story: an await is too far, or a line could wait for ever
-abbrev pub story_refusal : Script → List (ℕ × ℕ) → Option Refusal
+abbrev pub story_refusal : Story → List (ℕ × ℕ) → Option Refusal
 story_refusal s awaits = option_or (await_refusal (flushes s.page) awaits) (stuck_refusal s)
 
 -- what is refused when all lines are read: there was no start, or the story is refused
-abbrev pub end_refusal : Progress → Option Refusal
-end_refusal p = if p.started then story_refusal (story_of p) p.awaits else Some (whole NoStart)
+abbrev pub end_refusal : LinesRead → Option Refusal
+end_refusal p = if p.started then story_refusal (story_of p) p.awaits else Some (input_refusal NoStart)
 
 -- a story, unless there is a refusal
-abbrev pub accept_unless : Option Refusal → Script → Result Script Refusal
+abbrev pub accept_unless : Option Refusal → Story → Result Story Refusal
 accept_unless None s = Ok s
 accept_unless (Some refusal) s = Err refusal
 
 -- the story of all lines, or what is refused at their end
-abbrev pub at_end : Progress → Result Script Refusal
+abbrev pub at_end : LinesRead → Result Story Refusal
 at_end p = accept_unless (end_refusal p) (story_of p)
 
 -- what the end makes of the lines, where none of them is refused
-abbrev pub ended : Result Progress Refusal → Result Script Refusal
+abbrev pub ended : Result LinesRead Refusal → Result Story Refusal
 ended (Ok p) = at_end p
 ended (Err refusal) = Err refusal
 
 -- the story of these lines, or their first refusal
-abbrev pub judged_lines : List Chars → Result Script Refusal
+abbrev pub judged_lines : List Chars → Result Story Refusal
 judged_lines lines = ended (after_lines 1 at_first lines)
 
 -- what the bytes are: a story, or the first refusal. They may be 16,777,216, and have to be UTF-8
-unfoldable pub judged : List ℕ → Result Script Refusal
-judged bytes = if nat_lt MAX_STORY_BYTES (length bytes) then Err (whole StoryTooLong) else if is_utf8 bytes then judged_lines (pieces bytes) else Err (whole NotUtf8)
+unfoldable pub judged : List ℕ → Result Story Refusal
+judged bytes = if nat_lt MAX_STORY_BYTES (length bytes) then Err (input_refusal StoryTooLong) else if is_utf8 bytes then judged_lines (pieces bytes) else Err (input_refusal NotUtf8)
 
 -- the bytes are this story
-abbrev pub Accepted : List ℕ → Script → Type 0
+abbrev pub Accepted : List ℕ → Story → Type 0
 Accepted bytes story = judged bytes ≡ Ok story
 
 -- this is the first refusal of the bytes

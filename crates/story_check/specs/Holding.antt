@@ -9,9 +9,9 @@ use Rattle.story_check.specs.declared.story.PageLine.{PageLine}
 use Rattle.story_check.specs.declared.story.PageLine.TheVariants.{Change, Flush, Until}
 use Rattle.story_check.specs.declared.refusals.AcceptFail.{AcceptFail}
 use Rattle.story_check.specs.declared.refusals.Refusal.{Refusal}
-use Rattle.story_check.specs.Stories.{Script, flushes, unflushed}
+use Rattle.story_check.specs.Stories.{Story, flushes, unflushed}
 use Rattle.story_check.specs.Moments.{document_at}
-use Rattle.story_check.specs.Acceptance.{Progress, with_edit, line_effect, turns_of, story_refusal, whole, AcceptFails}
+use Rattle.story_check.specs.Acceptance.{LinesRead, with_edit, line_effect, turns_of, story_refusal, input_refusal, AcceptFails}
 use Rattle.story_check.specs.declared.refusals.Cause.TheVariants.{NoStart}
 
 -- the lines of a page that are no edits
@@ -22,34 +22,34 @@ pauses (Flush ∷ xs) = Flush ∷ pauses xs
 pauses (Until k ∷ xs) = Until k ∷ pauses xs
 
 -- the lines, or where their edits are not kept, the lines without them
-abbrev pub lines_kept : Bool → Progress → Progress
+abbrev pub lines_kept : Bool → LinesRead → LinesRead
 lines_kept true p = p
 lines_kept false p = record p { base = []; page = pauses p.page }
 
 -- a story, or where its edits are not kept, the story without them
-abbrev pub story_kept : Bool → Script → Script
+abbrev pub story_kept : Bool → Story → Story
 story_kept true s = s
 story_kept false s = record s { base = []; page = pauses s.page }
 
 -- whether the edits are kept, whether one of the page stands behind its last flush, and what is kept of the lines
-pub record Held : Type 0 where
+pub record Progress : Type 0 where
   pub keeps : Bool
   pub pending : Bool
-  pub lines : Progress
+  pub lines : LinesRead
 
 -- what is held of these lines
-abbrev pub held : Bool → Progress → Held
+abbrev pub held : Bool → LinesRead → Progress
 held keeps p = record { keeps = keeps; pending = unflushed false p.page; lines = lines_kept keeps p }
 
 -- with an edit behind these lines
-abbrev pub held_edit : Edit → Held → Held
+abbrev pub held_edit : Edit → Progress → Progress
 held_edit e h = record h {
   pending = if h.lines.started then true else h.pending;
   lines = if h.keeps then with_edit e (record h.lines { document = edited h.lines.document e }) else record h.lines { document = edited h.lines.document e };
 }
 
 -- with a line that is not refused, at its number
-abbrev pub held_line : ℕ → Held → Line → Held
+abbrev pub held_line : ℕ → Progress → Line → Progress
 held_line n h (EditLine e) = held_edit e h
 held_line n h StartLine = record h { lines = line_effect n h.lines StartLine }
 held_line n h FlushLine = record h { pending = false; lines = line_effect n h.lines FlushLine }
@@ -62,36 +62,36 @@ held_line n h NoticesLine = record h { lines = line_effect n h.lines NoticesLine
 held_line n h (TurnsLine text) = record h { lines = line_effect n h.lines (TurnsLine text) }
 
 -- the page that is held, and its closing flush
-abbrev pub held_page : Held → List PageLine
+abbrev pub held_page : Progress → List PageLine
 held_page h = if h.pending then h.lines.page ++ Flush ∷ [] else h.lines.page
 
 -- the story that is held
-abbrev pub held_story : Held → Script
+abbrev pub held_story : Progress → Story
 held_story h = record { base = h.lines.base; page = held_page h; client = h.lines.client; turns = turns_of h.lines.turns }
 
 -- what is refused when all lines are read
-abbrev pub held_refusal : Held → Option Refusal
-held_refusal h = if h.lines.started then story_refusal (held_story h) h.lines.awaits else Some (whole NoStart)
+abbrev pub held_refusal : Progress → Option Refusal
+held_refusal h = if h.lines.started then story_refusal (held_story h) h.lines.awaits else Some (input_refusal NoStart)
 
 -- a story with its document, unless there is a refusal
-abbrev pub told_unless : Option Refusal → Script → Document → Result (Script × Document) Refusal
+abbrev pub told_unless : Option Refusal → Story → Document → Result (Story × Document) Refusal
 told_unless None s d = Ok (s, d)
 told_unless (Some refusal) s d = Err refusal
 
 -- what is told at the end: the story that is held, and the document after all edits
-abbrev pub told : Held → Result (Script × Document) Refusal
+abbrev pub told : Progress → Result (Story × Document) Refusal
 told h = told_unless (held_refusal h) (held_story h) h.lines.document
 
 -- what is told of a story: what is kept of it, and the document of its last moment
-abbrev pub told_of : Bool → Script → Script × Document
+abbrev pub told_of : Bool → Story → Story × Document
 told_of keeps s = (story_kept keeps s, document_at s (flushes s.page))
 
 -- what is told where a story is judged
-abbrev pub told_where : Bool → Result Script Refusal → Result (Script × Document) Refusal
+abbrev pub told_where : Bool → Result Story Refusal → Result (Story × Document) Refusal
 told_where keeps (Ok s) = Ok (told_of keeps s)
 told_where keeps (Err refusal) = Err refusal
 
 -- a call goes on to what is held of the lines that these come to, or fails as they do
-abbrev pub GoesOn : {T : Type 0} → Result T AcceptFail → Bool → Held → Result Progress Refusal → Type 0
-GoesOn (Ok _) keeps new what = (q : Progress) × (what ≡ Ok q) × (new ≡ held keeps q)
+abbrev pub GoesOn : {T : Type 0} → Result T AcceptFail → Bool → Progress → Result LinesRead Refusal → Type 0
+GoesOn (Ok _) keeps new what = (q : LinesRead) × (what ≡ Ok q) × (new ≡ held keeps q)
 GoesOn (Err fail) keeps new what = AcceptFails fail what

@@ -10,7 +10,7 @@ use Rattle.ax_record.specs.ObjectTrees.{IsObjectTree}
 use Rattle.ax_record.specs.Records.{tree}
 use Rattle.story_check.specs.declared.story.PageLine.{PageLine}
 use Rattle.story_check.specs.declared.story.PageLine.TheVariants.{Change, Flush, Until}
-use Rattle.story_check.specs.Stories.{Script}
+use Rattle.story_check.specs.Stories.{Story}
 
 -- the document after these edits
 abbrev pub after_edits : Document → List Edit → Document
@@ -26,11 +26,11 @@ after_flushes d (Flush ∷ xs) (suc k) = after_flushes d xs k
 after_flushes d (Until j ∷ xs) (suc k) = after_flushes d xs (suc k)
 
 -- the document of a moment: after the edits before the start, and all edits before that flush
-unfoldable pub document_at : Script → ℕ → Document
+unfoldable pub document_at : Story → ℕ → Document
 document_at s k = after_flushes (after_edits new_document s.base) s.page k
 
 -- the tree of a moment
-unfoldable pub tree_at : Script → ℕ → Tree
+unfoldable pub tree_at : Story → ℕ → Tree
 tree_at s k = tree (document_at s k)
 
 -- nothing refuses an edit, and its rectangles are within bounds
@@ -50,10 +50,10 @@ AreLinesAccepted d (Flush ∷ xs) = AreLinesAccepted d xs
 AreLinesAccepted d (Until k ∷ xs) = AreLinesAccepted d xs
 
 -- every edit of a story may be done
-pub record IsAccepted (s : Script) : Type 0 where
+pub record IsAccepted (s : Story) : Type 0 where
   pub base : AreAccepted new_document s.base
   pub lines : AreLinesAccepted (after_edits new_document s.base) s.page
 
 -- the tree of each moment is one whose objects hang together
-abbrev pub AreTrees : Script → Type 0
+abbrev pub AreTrees : Story → Type 0
 AreTrees s = (k : ℕ) → IsObjectTree (tree_at s k)

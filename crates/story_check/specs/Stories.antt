@@ -8,7 +8,7 @@ use Rattle.story_check.specs.declared.story.ClientLine.{ClientLine}
 use Rattle.story_check.specs.declared.story.ClientLine.TheVariants.{Ask, Again, Hear, Await, Notices}
 
 -- a story: the edits before its start, the lines of its page and of its client, and the turns to play first
-pub record Script : Type 0 where
+pub record Story : Type 0 where
   pub base : List Edit
   pub page : List PageLine
   pub client : List ClientLine
@@ -54,7 +54,7 @@ untils_met t (Flush ∷ xs) = untils_met t xs
 untils_met t (Until k ∷ xs) = nat_le k t && untils_met t xs
 
 -- some line could wait for ever
-abbrev pub stuck : Script → Bool
+abbrev pub stuck : Story → Bool
 stuck s = not (awaits_met s.page 0 s.client && untils_met (awaited 0 s.client) s.page)
 
 -- whether an edit stands after the last flush, where one stands before these lines or none

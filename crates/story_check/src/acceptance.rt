@@ -2,13 +2,13 @@
 ghost use Rattle.std.specs.Prelude.{◌≡◌, ◌≤◌, ◌+◌, length, false, IfOk, IfErr, IfSome, MatchOption};
 ghost use Rattle.std.specs.Str.{IsUtf8};
 ghost use Rattle.story_check.specs.Moments.{IsAccepted};
-ghost use Rattle.story_check.specs.Stories.{Script, stuck};
-ghost use Rattle.story_check.specs.Acceptance.{Progress, after_lines, pieces, judged, judged_lines, Accepted, AcceptFails, Accepts, IsFirstLine, HasNoLineFeed};
+ghost use Rattle.story_check.specs.Stories.{Story, stuck};
+ghost use Rattle.story_check.specs.Acceptance.{LinesRead, after_lines, pieces, judged, judged_lines, Accepted, AcceptFails, Accepts, IsFirstLine, HasNoLineFeed};
 ghost use Rattle.story_check.specs.Holding.{held, told_where, GoesOn};
 ghost use Rattle.story_check.specs.Last.{IsLastOf};
 
-use crate::progress::Reading;
-use crate::refusals::whole;
+use crate::progress::Progress;
+use crate::refusals::input_refusal;
 use crate::{AcceptFail, Cause, LastMoment, MAX_STORY_BYTES, Story};
 use ax_dom::Dom;
 use std::alloc::Global;
@@ -27,7 +27,7 @@ pub fn accept(alloc: Global, bytes: &[u8]) -> Result<Story, AcceptFail>
 /// The last moment of the story of these bytes, or their first refusal, as `accept` has it. It takes one pass over the lines, and
 /// keeps no edit: each becomes the document's.
 pub fn accept_last(alloc: Global, bytes: &[u8]) -> Result<LastMoment, AcceptFail>
-    ensures last { IfOk result (λ last. (story : Script) × Accepted bytes.now story × IsLastOf story last) }
+    ensures last { IfOk result (λ last. (story : Story) × Accepted bytes.now story × IsLastOf story last) }
     ensures refused { IfErr result (λ fail. AcceptFails fail (judged bytes.now)) }
 {
     let (story, document) = judge(alloc, bytes, false)?;
@@ -43,11 +43,11 @@ fn judge(alloc: Global, bytes: &[u8], keeps: bool) -> Result<(Story, Dom), Accep
     ensures { Accepts result (told_where keeps (judged bytes.now)) }
 {
     if bytes.len() > MAX_STORY_BYTES {
-        return Err(whole(Cause::StoryTooLong));
+        return Err(input_refusal(Cause::StoryTooLong));
     }
     match str::from_utf8(bytes) {
         Ok(text) => judge_lines(alloc, text, keeps),
-        Err(_) => Err(whole(Cause::NotUtf8)),
+        Err(_) => Err(input_refusal(Cause::NotUtf8)),
     }
 }
 
@@ -56,24 +56,24 @@ fn judge_lines(alloc: Global, text: &str, keeps: bool) -> Result<(Story, Dom), A
     requires short { length text.now ≤ MAX_STORY_BYTES }
     ensures { Accepts result (told_where keeps (judged_lines (pieces text.now))) }
 {
-    let mut reading = Reading::new(alloc, keeps)?;
-    read_lines(alloc, &mut reading, text)?;
-    reading.finish(alloc)
+    let mut progress = Progress::new(alloc, keeps)?;
+    read_lines(alloc, &mut progress, text)?;
+    progress.finish(alloc)
 }
 
 /// Reads all lines, from the first.
-fn read_lines(alloc: Global, reading: &mut Reading, text: &str) -> Result<(), AcceptFail>
+fn read_lines(alloc: Global, progress: &mut Progress, text: &str) -> Result<(), AcceptFail>
     requires short { length text.now ≤ MAX_STORY_BYTES }
-    ensures { (p : Progress) → reading.old ≡ held reading.old.keeps p → GoesOn result reading.old.keeps reading.new (after_lines 1 p (pieces text.now)) }
+    ensures { (p : LinesRead) → progress.old ≡ held progress.old.keeps p → GoesOn result progress.old.keeps progress.new (after_lines 1 p (pieces text.now)) }
 {
     let mut rest = text;
     let mut number = 1;
     'lines: while let Some((line, after)) = first_line(rest) {
-        reading.step(alloc, number, line)?;
+        progress.step(alloc, number, line)?;
         number += 1;
         rest = after;
     }
-    reading.step(alloc, number, rest)
+    progress.step(alloc, number, rest)
 }
 
 /// The first line, and what stands behind its line feed.

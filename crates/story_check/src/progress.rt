@@ -9,10 +9,10 @@ ghost use Rattle.story_lines.specs.Bounds.{KeepsBounds};
 ghost use Rattle.story_lines.specs.Lines.{line_of};
 ghost use Rattle.story_check.specs.declared.story.PageLine.TheVariants.{Flush, Until};
 ghost use Rattle.story_check.specs.Stories.{flushes};
-ghost use Rattle.story_check.specs.Acceptance.{Progress, at_first, cause_of, edit_fail, turns_of, story_refusal, is_letter, is_turn_list, side, client_cause, line_cause, with_edit, with_page, with_client, with_await, unless, after_line, await_refusal, Comes, Accepts};
+ghost use Rattle.story_check.specs.Acceptance.{LinesRead, at_first, cause_of, edit_fail, turns_of, story_refusal, is_letter, is_turn_list, side, client_cause, line_cause, with_edit, with_page, with_client, with_await, unless, after_line, await_refusal, Comes, Accepts};
 ghost use Rattle.story_check.specs.Holding.{held, held_edit, held_line, told, GoesOn};
 
-use crate::refusals::{refused, whole};
+use crate::refusals::{input_refusal, refused};
 use crate::{
     AcceptFail, Cause, ClientLine, MAX_CLIENT_LINES, MAX_FLUSHES, MAX_TURNS, PageLine, Refusal,
     Story, stuck,
@@ -25,7 +25,7 @@ use story_lines::{Line, LineFail, read_line};
 
 /// The lines that are read so far, with or without their edits, and the document after these.
 #[derive(Drop)]
-pub struct Reading {
+pub struct Progress {
     dom: Dom,
     started: bool,
     /// Whether the edits are kept.
@@ -40,14 +40,14 @@ pub struct Reading {
     count: u32,
 }
 
-impl Model for Reading {
+impl Model for Progress {
     ghost use Rattle.std.specs.Prelude.{◌≡◌, ◌≤◌, length};
     ghost use Rattle.std.specs.Option.{option_map};
     ghost use Rattle.story_check.specs.declared.limits.TheConstants.{MAX_CLIENT_LINES, MAX_FLUSHES};
     ghost use Rattle.story_check.specs.Stories.{flushes};
-    ghost use Rattle.story_check.specs.Holding.{Held};
+    ghost use Rattle.story_check.specs.Holding.{Progress};
 
-    ghost Value = { Held };
+    ghost Value = { Progress };
 
     ghost view = { λ s. record { keeps = s.keeps; pending = s.pending; lines = record { document = s.dom; started = s.started; base = s.base.items; page = s.page.items; client = s.client.items; awaits = s.awaits.items; turns = option_map (λ v. v.items) s.turns } } };
 
@@ -177,12 +177,12 @@ fn story_refusal(story: &Story, awaits: &[(u32, Moment)]) -> Option<Refusal>
     None
 }
 
-impl Reading {
+impl Progress {
     /// Before the first line. It says whether the edits will be kept.
-    pub fn new(alloc: Global, keeps: bool) -> Result<Reading, NoMemory>
-        ensures { IfOk result (λ reading. reading ≡ held keeps at_first) }
+    pub fn new(alloc: Global, keeps: bool) -> Result<Progress, NoMemory>
+        ensures { IfOk result (λ progress. progress ≡ held keeps at_first) }
     {
-        Ok(Reading {
+        Ok(Progress {
             dom: Dom::new(alloc)?,
             started: false,
             keeps,
@@ -198,7 +198,7 @@ impl Reading {
 
     /// Reads the line with this number.
     pub fn step(&mut self, alloc: Global, number: u32, line: &str) -> Result<(), AcceptFail>
-        ensures { (p : Progress) → self.old ≡ held self.old.keeps p → GoesOn result self.old.keeps self.new (after_line number p (line_of line.now)) }
+        ensures { (p : LinesRead) → self.old ≡ held self.old.keeps p → GoesOn result self.old.keeps self.new (after_line number p (line_of line.now)) }
     {
         match read_line(alloc, line) {
             Ok(Some(said)) => self.take(alloc, number, said),
@@ -390,9 +390,9 @@ impl Reading {
         ensures { Accepts result (told self) }
     {
         if !self.started {
-            return Err(whole(Cause::NoStart));
+            return Err(input_refusal(Cause::NoStart));
         }
-        let Reading {
+        let Progress {
             dom,
             pending,
             base,

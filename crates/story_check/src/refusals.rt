@@ -90,7 +90,7 @@ pub fn refused(line: u32, cause: Cause) -> Result<(), AcceptFail>
 }
 
 /// A refusal of the whole input.
-pub fn whole(cause: Cause) -> AcceptFail
+pub fn input_refusal(cause: Cause) -> AcceptFail
     ensures { result ≡ Refused (record { line = 0; cause = cause }) }
 {
     AcceptFail::Refused(Refusal { line: 0, cause })

@@ -47,9 +47,9 @@ pub struct Story {
 impl Model for Story {
     ghost use Rattle.std.specs.Prelude.{◌≡◌, ◌≤◌, ◌+◌, length};
     ghost use Rattle.story_check.specs.declared.limits.TheConstants.{MAX_CLIENT_LINES, MAX_FLUSHES};
-    ghost use Rattle.story_check.specs.Stories.{Script, flushes};
+    ghost use Rattle.story_check.specs.Stories.{Story, flushes};
 
-    ghost Value = { Script };
+    ghost Value = { Story };
 
     ghost view = { λ s. record { base = s.base.items; page = s.page.items; client = s.client.items; turns = s.turns.items } };
 

@@ -15,7 +15,7 @@ use Rattle.story_lines.specs.declared.kinds.Kind.{Kind}
 use Rattle.story_lines.specs.declared.kinds.Kind.TheVariants.{Insert, Remove, Move, Set, Unset, Chars as NewChars, SetRuns, Frame, Focus, Start, Flush, Until, Ask, Again, Hear, Await, Notices, Turns}
 use Rattle.story_lines.specs.declared.reading.Line.{Line}
 use Rattle.story_lines.specs.declared.reading.Line.TheVariants.{Change, Flush as FlushLine, Until as UntilLine, Ask as AskLine, Again as AgainLine, Hear as HearLine, Await as AwaitLine, Notices as NoticesLine}
-use Rattle.story_lines.specs.Values.{◌or_else◌, only_keys, has_only, has_true, is_word, max_moment, moment_by, whole, whole_at, id_at}
+use Rattle.story_lines.specs.Values.{◌or_else◌, only_keys, has_only, has_true, is_word, max_moment, moment_by, integer, integer_at, id_at}
 use Rattle.story_lines.specs.Requests.{request_by, request_of}
 use Rattle.story_lines.specs.Forms.{insert_element_of, insert_text_of, remove_of, move_of, set_of, unset_of, text_of, runs_of, frame_of, focus_of, edit_of, start_of, flush_of, until_of, ask_of, again_of, hear_of, await_of, notices_of, turns_of, form_of}
 use Rattle.story_lines.specs.Kinds.{kind_by, kind_among, kind_of, form_by, form_where}
@@ -115,7 +115,7 @@ word-apart k key d line own other = through (has_only (key ∷ []) d) refl
 
 -- a moment
 moment-apart : (k : Kind) (key : Chars) (d : Data) → kind_by key ≡ Some k → (kind_of d ≡ Some k → ⊥) → moment_by key d ≡ None
-moment-apart k key d own other = apart k key (key ∷ []) d (whole_at key 0 max_moment d) own (own_key k key own) other (λ e. ap (λ (o : Option Data). option_and_then (whole 0 max_moment) o) e)
+moment-apart k key d own other = apart k key (key ∷ []) d (integer_at key 0 max_moment d) own (own_key k key own) other (λ e. ap (λ (o : Option Data). option_and_then (integer 0 max_moment) o) e)
 
 -- a request
 request-apart : (k : Kind) (key : Chars) (d : Data) → kind_by key ≡ Some k → (kind_of d ≡ Some k → ⊥) → request_by key d ≡ None

@@ -15,7 +15,7 @@ use Rattle.ax_base.specs.declared.rect.Run.{Run}
 use Rattle.ax_dom.specs.declared.edit.Edit.TheVariants.{InsertElement, InsertText, Remove, Move, Set, Unset, Chars as SetChars, SetRuns, Frame, Focus}
 use Rattle.story_lines.specs.declared.reading.Line.{Line}
 use Rattle.story_lines.specs.declared.reading.Line.TheVariants.{Change, Start, Flush, Until, Ask, Again, Hear, Await, Notices, Turns}
-use Rattle.story_lines.specs.Values.{◌or_else◌, id_at, maybe_id, id_or_none_at, name_at, tag_at, text_at, whole_at, between, whole, around_zero, is_word, moment_by}
+use Rattle.story_lines.specs.Values.{◌or_else◌, id_at, maybe_id, id_or_none_at, name_at, tag_at, text_at, integer_at, between, integer, around_zero, is_word, moment_by}
 use Rattle.story_lines.specs.Runs.{edge, size, rect_by, rect, rect_at, run_by, run, run_in, runs, runs_at}
 use Rattle.story_lines.specs.Requests.{request_by}
 use Rattle.story_lines.specs.Attributes.{maybe_attributes}
@@ -81,11 +81,11 @@ between_gives : (low high : ℕ) (z : ℤ) → Gives (between low high z) (λ n.
 between_gives low high (pos n) = where_true (nat_le low n && nat_le n high) (Some n) (λ h. gives n (leb-true n high (second_so (nat_le low n) (nat_le n high) h)))
 between_gives low high (negsuc n) = record { fact = tt }
 
-whole_gives : (low high : ℕ) (d : Data) → Gives (whole low high d) (λ n. n ≤ high)
-whole_gives low high d = from_any (option_and_then as_i64 (as_number d)) (between low high) (between_gives low high)
+integer_gives : (low high : ℕ) (d : Data) → Gives (integer low high d) (λ n. n ≤ high)
+integer_gives low high d = from_any (option_and_then as_i64 (as_number d)) (between low high) (between_gives low high)
 
 size_gives : (d : Data) → Gives (size d) IsSize
-size_gives d = mapped_from (λ n. n ≤ 2 ^ 20) pos (whole 0 (2 ^ 20) d) (whole_gives 0 (2 ^ 20) d) (λ n h. (omega (arith, ints), omega (arith, ints)))
+size_gives d = mapped_from (λ n. n ≤ 2 ^ 20) pos (integer 0 (2 ^ 20) d) (integer_gives 0 (2 ^ 20) d) (λ n h. (omega (arith, ints), omega (arith, ints)))
 
 -- a left edge of 2^20 at most and a width of 2^20 at most give a right edge of 2^21 at most
 rect_by_gives : (x y w h : Data) → Gives (rect_by x y w h) IsWithinBounds
@@ -102,7 +102,7 @@ RunIsWithin r = IsWithinBounds r.rect
 
 run_by_gives : (first past line : Data) (frame : Option Rect) → Gives frame IsWithinBounds → Gives (run_by first past line frame) RunIsWithin
 run_by_gives first past line frame h =
-    from_any (whole 0 (2 ^ 16) first) _ (λ from. from_any (whole 0 (2 ^ 16) past) _ (λ to. from_any (whole 0 (2 ^ 20) line) _ (λ number. made IsWithinBounds frame _ h (λ rect r.
+    from_any (integer 0 (2 ^ 16) first) _ (λ from. from_any (integer 0 (2 ^ 16) past) _ (λ to. from_any (integer 0 (2 ^ 20) line) _ (λ number. made IsWithinBounds frame _ h (λ rect r.
     gives (record { first = from; past = to; line = number; rect = rect }) r))))
 
 run_gives : (ds : Items) → Gives (run ds) RunIsWithin
@@ -167,7 +167,7 @@ line_gives : (d : Data) → Gives (form_of d) KeepsBounds
 unfolding form_of start_of flush_of until_of ask_of again_of hear_of await_of notices_of turns_of
 line_gives d =
     either _ _ (mapped_from EditKeepsBounds Change (edit_of d) (edit_gives d) (λ e h. h))
-    (either _ _ (where_true _ _ (λ e. from_any (whole_at (codes "start") 1 1 d) _ (λ one. gives Start tt)))
+    (either _ _ (where_true _ _ (λ e. from_any (integer_at (codes "start") 1 1 d) _ (λ one. gives Start tt)))
     (either _ _ (where_true (is_word (codes "flush") d) (Some Flush) (λ e. gives Flush tt))
     (either _ _ (mapped Until (moment_by (codes "until") d) (λ n. tt))
     (either _ _ (mapped Ask (request_by (codes "ask") d) (λ r. tt))

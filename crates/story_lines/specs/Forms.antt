@@ -6,7 +6,7 @@ use Rattle.ax_dom.specs.declared.edit.Edit.{Edit}
 use Rattle.ax_dom.specs.declared.edit.Edit.TheVariants.{InsertElement, InsertText, Remove, Move, Set, Unset, Chars as SetChars, SetRuns, Frame, Focus}
 use Rattle.story_lines.specs.declared.reading.Line.{Line}
 use Rattle.story_lines.specs.declared.reading.Line.TheVariants.{Change, Start, Flush, Until, Ask, Again, Hear, Await, Notices, Turns}
-use Rattle.story_lines.specs.Values.{◌>>=◌, ◌or_else◌, has_only, is_word, moment_by, whole_at, id_at, maybe_id, id_or_none_at, text_at, tag_at, name_at}
+use Rattle.story_lines.specs.Values.{◌>>=◌, ◌or_else◌, has_only, is_word, moment_by, integer_at, id_at, maybe_id, id_or_none_at, text_at, tag_at, name_at}
 use Rattle.story_lines.specs.Attributes.{maybe_attributes}
 use Rattle.story_lines.specs.Runs.{rect_at, runs_at}
 use Rattle.story_lines.specs.Requests.{request_by}
@@ -115,7 +115,7 @@ edit_of d =
 -- start: `start`, which is 1
 unfoldable pub start_of : Data → Option Line
 start_of d = if has_only (codes "start" ∷ []) d then (do
-  one ← whole_at (codes "start") 1 1 d
+  one ← integer_at (codes "start") 1 1 d
   Some Start)
     else None
 

@@ -4,13 +4,13 @@ use Rattle.serde_json.specs.Data.{Data, Items, no_items, item}
 use Rattle.serde_json.specs.Find.{get, as_array}
 use Rattle.ax_base.specs.Characters.{Chars}
 use Rattle.ax_ask.specs.declared.requests.Marker.{Marker}
-use Rattle.story_lines.specs.Values.{◌>>=◌, whole, max_id}
+use Rattle.story_lines.specs.Values.{◌>>=◌, integer, max_id}
 
 -- a marker by its text and its place in it
 abbrev pub marker_by : Data → Data → Option Marker
 marker_by id offset = do
-  text ← whole 1 max_id id
-  place ← whole 0 (2 ^ 32 - 1) offset
+  text ← integer 1 max_id id
+  place ← integer 0 (2 ^ 32 - 1) offset
   Some (record { id = text; offset = place })
 
 -- `[id, offset]`

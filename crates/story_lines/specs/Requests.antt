@@ -6,7 +6,7 @@ use Rattle.ax_base.specs.Characters.{Chars}
 use Rattle.ax_ask.specs.declared.requests.Marker.{Marker}
 use Rattle.ax_ask.specs.declared.requests.Request.{Request}
 use Rattle.ax_ask.specs.declared.requests.Request.TheVariants.{Root, Focus, Role, Name, Description, Value, States, Level, Live, Frame, Parent, Children, Compare, NextChar, PrevChar, NextWord, LineAt, TextOf, BoundsOf, Search, Hit}
-use Rattle.story_lines.specs.Values.{◌>>=◌, ◌or_else◌, has_only, whole, id_at, signed_at, text_at}
+use Rattle.story_lines.specs.Values.{◌>>=◌, ◌or_else◌, has_only, integer, id_at, signed_at, text_at}
 use Rattle.story_lines.specs.Markers.{marker_at}
 use Rattle.story_lines.specs.Searches.{search_at}
 
@@ -45,7 +45,7 @@ about_of word d = if has_only (codes "q" ∷ codes "id" ∷ []) d then (do
 -- a place among the children, which is 0 where none is given
 abbrev pub place_or_first : Option Data → Option ℕ
 place_or_first None = Some 0
-place_or_first (Some d) = whole 0 (2 ^ 16) d
+place_or_first (Some d) = integer 0 (2 ^ 16) d
 
 -- children: `id`, and where it is given `from`
 unfoldable pub children_of : Chars → Data → Option Request

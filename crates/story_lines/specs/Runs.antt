@@ -4,7 +4,7 @@ use Rattle.serde_json.specs.Data.{Data, Items, no_items, item}
 use Rattle.serde_json.specs.Find.{get, as_array, as_number, as_i64}
 use Rattle.ax_base.specs.declared.rect.Rect.{Rect}
 use Rattle.ax_base.specs.declared.rect.Run.{Run}
-use Rattle.story_lines.specs.Values.{◌>>=◌, whole, around_zero}
+use Rattle.story_lines.specs.Values.{◌>>=◌, integer, around_zero}
 
 -- where a left or a top edge lies
 abbrev pub edge : Data → Option ℤ
@@ -12,7 +12,7 @@ edge d = as_number d >>= as_i64 >>= around_zero (2 ^ 20)
 
 -- how wide or high something is
 abbrev pub size : Data → Option ℤ
-size d = option_map pos (whole 0 (2 ^ 20) d)
+size d = option_map pos (integer 0 (2 ^ 20) d)
 
 -- a rectangle by its left and top edges, its width and its height
 abbrev pub rect_by : Data → Data → Data → Data → Option Rect
@@ -35,9 +35,9 @@ rect_at d = get (codes "rect") d >>= as_array >>= rect
 -- a run by its characters from `first` to before `past`, the number of its line and its frame
 abbrev pub run_by : Data → Data → Data → Option Rect → Option Run
 run_by first past line frame = do
-  from ← whole 0 (2 ^ 16) first
-  to ← whole 0 (2 ^ 16) past
-  number ← whole 0 (2 ^ 20) line
+  from ← integer 0 (2 ^ 16) first
+  to ← integer 0 (2 ^ 16) past
+  number ← integer 0 (2 ^ 20) line
   rect ← frame
   Some (record { first = from; past = to; line = number; rect = rect })
 

@@ -6,7 +6,7 @@ use Rattle.ax_base.specs.Characters.{Chars}
 use Rattle.ax_ask.specs.declared.requests.SearchKey.{SearchKey}
 use Rattle.ax_ask.specs.declared.requests.SearchKey.TheVariants.{Any, Text, Heading, Link, Button, Checkbox, Radio, List as ListKey, Field, Control, Landmark, Table, Image, Live, Focusable}
 use Rattle.ax_ask.specs.declared.requests.SearchRequest.{SearchRequest}
-use Rattle.story_lines.specs.Values.{◌>>=◌, whole_at, id_or_none_at, text_at}
+use Rattle.story_lines.specs.Values.{◌>>=◌, integer_at, id_or_none_at, text_at}
 
 -- the kind of objects that a word names
 abbrev pub search_key : Chars → Option SearchKey
@@ -58,7 +58,7 @@ maybe_words (Some d) = as_str d >>= λ text. if nat_le (length text) 4096 then S
 
 -- how many objects are told at most: from 1 to 100
 abbrev pub limit_at : Data → Option ℕ
-limit_at d = whole_at (codes "limit") 1 100 d
+limit_at d = integer_at (codes "limit") 1 100 d
 
 -- a search: `from` is an object, or 0 where the search begins at no object
 abbrev pub search_at : Data → Option SearchRequest

@@ -33,12 +33,12 @@ between low high (pos n) = if nat_le low n && nat_le n high then Some n else Non
 between low high (negsuc n) = None
 
 -- a value that is a whole number within bounds: one that is written with a point or an exponent is none, and neither is `-0`
-abbrev pub whole : ℕ → ℕ → Data → Option ℕ
-whole low high d = as_number d >>= as_i64 >>= between low high
+abbrev pub integer : ℕ → ℕ → Data → Option ℕ
+integer low high d = as_number d >>= as_i64 >>= between low high
 
 -- the whole number at a key
-abbrev pub whole_at : Chars → ℕ → ℕ → Data → Option ℕ
-whole_at key low high d = get key d >>= whole low high
+abbrev pub integer_at : Chars → ℕ → ℕ → Data → Option ℕ
+integer_at key low high d = get key d >>= integer low high
 
 -- the greatest id of a node
 abbrev pub max_id : ℕ
@@ -46,12 +46,12 @@ max_id = 2 ^ 31 - 1
 
 -- the id of a node at a key
 abbrev pub id_at : Chars → Data → Option ℕ
-id_at key d = whole_at key 1 max_id d
+id_at key d = integer_at key 1 max_id d
 
 -- the id at a key that may be missing
 abbrev pub maybe_id : Option Data → Option (Option ℕ)
 maybe_id None = Some None
-maybe_id (Some d) = option_map Some (whole 1 max_id d)
+maybe_id (Some d) = option_map Some (integer 1 max_id d)
 
 -- no node where the number is 0
 abbrev pub id_or_none : ℕ → Option ℕ
@@ -59,7 +59,7 @@ id_or_none n = if n == 0 then None else Some n
 
 -- the id at a key, or none where 0 stands there
 abbrev pub id_or_none_at : Chars → Data → Option (Option ℕ)
-id_or_none_at key d = option_map id_or_none (whole_at key 0 max_id d)
+id_or_none_at key d = option_map id_or_none (integer_at key 0 max_id d)
 
 -- a number from -most to most
 abbrev pub around_zero : ℕ → ℤ → Option ℤ
@@ -89,7 +89,7 @@ max_moment = 2 ^ 30 - 1
 
 -- the word is the one key, and a moment stands there
 abbrev pub moment_by : Chars → Data → Option ℕ
-moment_by word d = if has_only (word ∷ []) d then whole_at word 0 max_moment d else None
+moment_by word d = if has_only (word ∷ []) d then integer_at word 0 max_moment d else None
 
 -- the text at a key
 abbrev pub text_at : Chars → Data → Option Chars

@@ -13,7 +13,7 @@ use crate::keys::has_only;
 use crate::kinds::{Kind, kind_of};
 use crate::reading::Line;
 use crate::requests::request_by;
-use crate::values::{has_true, text_at, whole_at};
+use crate::values::{has_true, integer_at, text_at};
 use ax_base::{Moment, NoMemory, Text};
 use ax_dom::Edit;
 use serde_json::Value;
@@ -29,7 +29,7 @@ fn start_of(value: &Value) -> Option<Line>
     if !has_only(value, &["start"]) {
         return None;
     }
-    whole_at(value, "start", 1, 1)?;
+    integer_at(value, "start", 1, 1)?;
     Some(Line::Start)
 }
 
@@ -47,7 +47,7 @@ fn moment_by(value: &Value, word: &str) -> Option<Moment>
     if !has_only(value, &[word]) {
         return None;
     }
-    Some(Moment(whole_at(value, word, 0, MAX_MOMENT)?))
+    Some(Moment(integer_at(value, word, 0, MAX_MOMENT)?))
 }
 
 #[tactic(auto, unfolding(crate::specs::Forms::flush_of))]

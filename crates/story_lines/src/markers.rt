@@ -3,7 +3,7 @@ ghost use Rattle.std.specs.Prelude.{◌≡◌};
 ghost use Rattle.serde_json.specs.View.{view, items_view};
 ghost use Rattle.story_lines.specs.Markers.{marker_by, marker, marker_at};
 
-use crate::values::{MAX_ID, whole};
+use crate::values::{MAX_ID, integer};
 use ax_ask::Marker;
 use ax_base::ObjId;
 use serde_json::Value;
@@ -16,8 +16,8 @@ fn marker_by(id: &Value, offset: &Value) -> Option<Marker>
     ensures { result ≡ marker_by (view id.now) (view offset.now) }
 {
     Some(Marker {
-        id: ObjId(whole(id, 1, MAX_ID)?),
-        offset: whole(offset, 0, MAX_OFFSET)?,
+        id: ObjId(integer(id, 1, MAX_ID)?),
+        offset: integer(offset, 0, MAX_OFFSET)?,
     })
 }
 

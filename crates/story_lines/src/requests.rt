@@ -7,7 +7,7 @@ ghost use Rattle.story_lines.specs.Requests.{alone, alone_of, about, about_of, p
 use crate::keys::has_only;
 use crate::markers::marker_at;
 use crate::searches::search_at;
-use crate::values::{id_at, signed_at, text_at, whole};
+use crate::values::{id_at, integer, signed_at, text_at};
 use ax_ask::{Marker, Request};
 use ax_base::{NoMemory, ObjId};
 use serde_json::Value;
@@ -73,7 +73,7 @@ fn place_at(value: &Value) -> Option<u32>
 {
     match value.get("from") {
         None => Some(0),
-        Some(place) => whole(place, 0, MAX_PLACE),
+        Some(place) => integer(place, 0, MAX_PLACE),
     }
 }
 

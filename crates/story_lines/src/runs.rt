@@ -4,7 +4,7 @@ ghost use Rattle.serde_json.specs.View.{view, items_view};
 ghost use Rattle.serde_json.specs.Find.{get, as_array};
 ghost use Rattle.story_lines.specs.Runs.{edge, size, rect_by, rect, run_by, run, run_in, runs, rect_at, runs_at};
 
-use crate::values::whole;
+use crate::values::integer;
 use ax_base::{NoMemory, Rect, Run, Runs};
 use serde_json::Value;
 use std::alloc::Global;
@@ -31,7 +31,7 @@ fn edge(value: &Value) -> Option<i32>
 fn size(value: &Value) -> Option<i32>
     ensures { result ≡ size (view value.now) }
 {
-    let number = whole(value, 0, FARTHEST as u32)?;
+    let number = integer(value, 0, FARTHEST as u32)?;
     Some(number as i32)
 }
 
@@ -66,9 +66,9 @@ fn run_by(first: &Value, past: &Value, line: &Value, rect: Option<Rect>) -> Opti
     ensures { result ≡ run_by (view first.now) (view past.now) (view line.now) rect }
 {
     Some(Run {
-        first: whole(first, 0, MOST_CHARACTERS)?,
-        past: whole(past, 0, MOST_CHARACTERS)?,
-        line: whole(line, 0, MOST_LINES)?,
+        first: integer(first, 0, MOST_CHARACTERS)?,
+        past: integer(past, 0, MOST_CHARACTERS)?,
+        line: integer(line, 0, MOST_LINES)?,
         rect: rect?,
     })
 }

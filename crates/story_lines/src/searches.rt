@@ -4,7 +4,7 @@ ghost use Rattle.serde_json.specs.View.{view, items_view};
 ghost use Rattle.serde_json.specs.Find.{get};
 ghost use Rattle.story_lines.specs.Searches.{search_key, search_key_in, search_keys, search_keys_at, backward_at, maybe_words, limit_at, search_at};
 
-use crate::values::{id_or_none_at, text_at, whole_at};
+use crate::values::{id_or_none_at, integer_at, text_at};
 use ax_ask::{SearchKey, SearchKeys, SearchRequest};
 use ax_base::{NoMemory, Text};
 use serde_json::Value;
@@ -116,7 +116,7 @@ fn maybe_words_at(alloc: Global, value: &Value) -> Result<Option<Option<Text>>, 
 fn limit_at(value: &Value) -> Option<u8>
     ensures { result ≡ limit_at (view value.now) }
 {
-    let number = whole_at(value, "limit", 1, MOST_FOUND)?;
+    let number = integer_at(value, "limit", 1, MOST_FOUND)?;
     Some(number as u8)
 }
 

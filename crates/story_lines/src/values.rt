@@ -2,7 +2,7 @@
 ghost use Rattle.std.specs.Prelude.{◌≡◌, option_map};
 ghost use Rattle.serde_json.specs.View.{view};
 ghost use Rattle.serde_json.specs.Find.{get};
-ghost use Rattle.story_lines.specs.Values.{whole, whole_at, id_at, maybe_id, id_or_none_at, signed_at, begins_with_letter, is_tag_byte, is_name_byte, is_tag, is_attribute_name, has_true, text_at, tag_at, name_at};
+ghost use Rattle.story_lines.specs.Values.{integer, integer_at, id_at, maybe_id, id_or_none_at, signed_at, begins_with_letter, is_tag_byte, is_name_byte, is_tag, is_attribute_name, has_true, text_at, tag_at, name_at};
 ghost use Rattle.std.specs.List.{list_all};
 
 use ax_base::ObjId;
@@ -16,8 +16,8 @@ const MAX_TAG: usize = 32;
 const MAX_NAME: usize = 64;
 
 /// A value that is a whole number within bounds.
-pub(crate) fn whole(value: &Value, low: u32, high: u32) -> Option<u32>
-    ensures { result ≡ whole low high (view value.now) }
+pub(crate) fn integer(value: &Value, low: u32, high: u32) -> Option<u32>
+    ensures { result ≡ integer low high (view value.now) }
 {
     let number = u32::try_from(value.as_i64()?).ok()?;
     if low <= number && number <= high {
@@ -28,17 +28,17 @@ pub(crate) fn whole(value: &Value, low: u32, high: u32) -> Option<u32>
 }
 
 /// The whole number at a key.
-pub(crate) fn whole_at(value: &Value, key: &str, low: u32, high: u32) -> Option<u32>
-    ensures { result ≡ whole_at key.now low high (view value.now) }
+pub(crate) fn integer_at(value: &Value, key: &str, low: u32, high: u32) -> Option<u32>
+    ensures { result ≡ integer_at key.now low high (view value.now) }
 {
-    whole(value.get(key)?, low, high)
+    integer(value.get(key)?, low, high)
 }
 
 /// The id of a node at a key.
 pub(crate) fn id_at(value: &Value, key: &str) -> Option<ObjId>
     ensures { result ≡ id_at key.now (view value.now) }
 {
-    Some(ObjId(whole_at(value, key, 1, MAX_ID)?))
+    Some(ObjId(integer_at(value, key, 1, MAX_ID)?))
 }
 
 /// The id at a key that may be missing.
@@ -47,7 +47,7 @@ pub(crate) fn maybe_id_at(value: &Value, key: &str) -> Option<Option<ObjId>>
 {
     match value.get(key) {
         None => Some(None),
-        Some(id) => Some(Some(ObjId(whole(id, 1, MAX_ID)?))),
+        Some(id) => Some(Some(ObjId(integer(id, 1, MAX_ID)?))),
     }
 }
 
@@ -55,7 +55,7 @@ pub(crate) fn maybe_id_at(value: &Value, key: &str) -> Option<Option<ObjId>>
 pub(crate) fn id_or_none_at(value: &Value, key: &str) -> Option<Option<ObjId>>
     ensures { result ≡ id_or_none_at key.now (view value.now) }
 {
-    let number = whole_at(value, key, 0, MAX_ID)?;
+    let number = integer_at(value, key, 0, MAX_ID)?;
     if number == 0 {
         Some(None)
     } else {

@@ -20,9 +20,9 @@ use Rattle.ax_dom.specs.Among.{is_in, IsClosedUp}
 use Rattle.ax_notice.specs.Candidates.{AreCandidates}
 use Rattle.ax_record.specs.declared.record.Record.{Record}
 use Rattle.ax_record.specs.Tree.{Tree, record_at, kids_of, parent_of, IsKid}
-use Rattle.ax_record.specs.Records.{tree, record_of, holder, is_object}
+use Rattle.ax_record.specs.Records.{tree, record_of, object_parent, is_object}
 use Rattle.ax_record.proofs.Equalities.{option_equality}
-use Rattle.ax_record.proofs.TreeOf.{kids_are, is_one, object_is, kid_is, record_is, holder_is, tree_hangs}
+use Rattle.ax_record.proofs.TreeOf.{kids_are, is_one, object_is, kid_is, record_is, object_parent_is, tree_hangs}
 use Rattle.tree_diff.specs.Alike.{AreAlikeBut}
 use Rattle.tree_diff.specs.Lost.{lost}
 use Rattle.tree_diff.specs.Candidates.{is_moved, moved_kids, candidates, IsSortedFrom, HaveAllDiffering}
@@ -114,18 +114,18 @@ module _ (old now : Document) (t : IsTree old) (u : IsTree now) (ns : List ℕ) 
   hung_now : (n k : ℕ) → Contains (objects now) n → Contains (kids now n) k → IsKid (tree now) n k
   hung_now n k one kid = subst (λ l. Contains l k) (sym (kids_are now u n ∙ ap (λ b. cond b (kids now n) []) (is_one now u n one))) kid
 
-  parent_was : (n : ℕ) → parent_of (tree old) n ≡ cond (is_object old n) (holder old n) None
+  parent_was : (n : ℕ) → parent_of (tree old) n ≡ cond (is_object old n) (object_parent old n) None
   parent_was n = ap (λ o. option_and_then (λ (r : Record). r.parent) o) (record_is old t n) ∙ go (is_object old n)
     where
-      go : (b : Bool) → option_and_then (λ (r : Record). r.parent) (cond b (Some (record_of old n)) None) ≡ cond b (holder old n) None
+      go : (b : Bool) → option_and_then (λ (r : Record). r.parent) (cond b (Some (record_of old n)) None) ≡ cond b (object_parent old n) None
       go true = refl
       go false = refl
 
   -- what hung on an object before
-  held_before : (n p : ℕ) → option_eq nat_eq (parent_of (tree old) n) (Some p) ≡ true → holder old n ≡ Some p
+  held_before : (n p : ℕ) → option_eq nat_eq (parent_of (tree old) n) (Some p) ≡ true → object_parent old n ≡ Some p
   held_before n p on = go (is_object old n) (parent_was n) (same_option (parent_of (tree old) n) (Some p) on)
     where
-      go : (b : Bool) → parent_of (tree old) n ≡ cond b (holder old n) None → parent_of (tree old) n ≡ Some p → holder old n ≡ Some p
+      go : (b : Bool) → parent_of (tree old) n ≡ cond b (object_parent old n) None → parent_of (tree old) n ≡ Some p → object_parent old n ≡ Some p
       go true is same = sym is ∙ same
       go false is same = absurd (none_some p (sym is ∙ same))
 
@@ -143,7 +143,7 @@ module _ (old now : Document) (t : IsTree old) (u : IsTree now) (ns : List ℕ) 
       -- a kid that did not move hangs on what it hung on
       by_kid : (p : ℕ) → Contains (objects now) p → Contains (kids now p) n → is_in ns p ≡ true → (a b : Bool) → is_in ns n ≡ a → option_eq nat_eq (parent_of (tree old) n) (Some p) ≡ b → Contains all n ⊎ (record_at (tree old) n ≡ record_at (tree now) n)
       by_kid p up kid on true b node was = inl (in_left ns (flat_map (moved_kids (tree old) now ns) ns ++ flat_map (lost (tree old) now) ns) n (among n node))
-      by_kid p up kid on false true off was = inr (same_held old now t u ns alike n (kids_known now u p n kid, off) (held_before n p was ∙ sym (holder_is now u p n up kid)))
+      by_kid p up kid on false true off was = inr (same_held old now t u ns alike n (kids_known now u p n kid, off) (held_before n p was ∙ sym (object_parent_is now u p n up kid)))
       by_kid p up kid on false false off was =
           inl (in_right ns (flat_map (moved_kids (tree old) now ns) ns ++ flat_map (lost (tree old) now) ns) n
           (in_left (flat_map (moved_kids (tree old) now ns) ns) (flat_map (lost (tree old) now) ns) n

@@ -9,8 +9,8 @@ use Rattle.ax_base.specs.Kids.{kids, objects}
 use Rattle.ax_base.proofs.Objects.{kids_known, objects_known, objects_shown, objects_hung, one_holder}
 use Rattle.ax_base.proofs.KidsLaws.{kids_deeper}
 use Rattle.ax_record.specs.Tree.{record_at}
-use Rattle.ax_record.specs.Records.{tree, record_of, holder, is_object, frame_of, chars_of, runs_of}
-use Rattle.ax_record.proofs.TreeOf.{object_is, is_one, record_is, holder_is, holder-root}
+use Rattle.ax_record.specs.Records.{tree, record_of, object_parent, is_object, frame_of, chars_of, runs_of}
+use Rattle.ax_record.proofs.TreeOf.{object_is, is_one, record_is, object_parent_is, object_parent-root}
 use Rattle.ax_dom.specs.Among.{is_in}
 use Rattle.tree_diff.specs.Alike.{IsAlike, AreAlikeBut}
 use Rattle.tree_diff.proofs.Visible.{object_from, objects_visible}
@@ -32,7 +32,7 @@ module _ (old now : Document) (t : IsTree old) (u : IsTree now) (ns : List ℕ) 
   is_still n far object = object_from now u n far.0 (sym (same n far).out ∙ objects_visible old t n object) (sym (ap ignored (same_spot n far)) ∙ objects_shown old t n object)
 
   -- a node that is far, and hangs on what is far, has its record
-  record_same : (n : ℕ) → IsFar n → holder old n ≡ holder now n → record_of old n ≡ record_of now n
+  record_same : (n : ℕ) → IsFar n → object_parent old n ≡ object_parent now n → record_of old n ≡ record_of now n
   record_same n far held = λ i. record {
     id = n;
     role = role (same_spot n far i);
@@ -49,12 +49,12 @@ module _ (old now : Document) (t : IsTree old) (u : IsTree now) (ns : List ℕ) 
     kids = (same n far).kids_are i;
   }
 
-  held_same : (n : ℕ) → IsFar n → ((p : ℕ) → Contains (objects now) p → Contains (kids now p) n → is_in ns p ≡ false) → Contains (objects now) n → holder old n ≡ holder now n
+  held_same : (n : ℕ) → IsFar n → ((p : ℕ) → Contains (objects now) p → Contains (kids now p) n → is_in ns p ≡ false) → Contains (objects now) n → object_parent old n ≡ object_parent now n
   held_same n far hangs object = elim (objects_hung now u n object) [
-    | inl is ↦ ap (holder old) (sym is) ∙ holder-root old t ∙ sym (ap (holder now) (sym is) ∙ holder-root now u)
+    | inl is ↦ ap (object_parent old) (sym is) ∙ object_parent-root old t ∙ sym (ap (object_parent now) (sym is) ∙ object_parent-root now u)
     | inr (p, up, kid) ↦
         (let far_p : IsFar p = (objects_known now u p up, hangs p up kid) in
-        holder_is old t p n (was_object p far_p up) (subst (λ l. Contains l n) (sym (same p far_p).kids_are) kid) ∙ sym (holder_is now u p n up kid))
+        object_parent_is old t p n (was_object p far_p up) (subst (λ l. Contains l n) (sym (same p far_p).kids_are) kid) ∙ sym (object_parent_is now u p n up kid))
   ]
 
   both_objects : (n : ℕ) → IsFar n → is_object old n ≡ is_object now n
@@ -67,7 +67,7 @@ module _ (old now : Document) (t : IsTree old) (u : IsTree now) (ns : List ℕ) 
       go false true x y = sym (sym x ∙ is_one now u n (is_still n far (object_is old t n y)))
 
   -- a node that is far, and hangs on what it hung on, has the record that it had
-  pub same_held : (n : ℕ) → IsFar n → holder old n ≡ holder now n → record_at (tree old) n ≡ record_at (tree now) n
+  pub same_held : (n : ℕ) → IsFar n → object_parent old n ≡ object_parent now n → record_at (tree old) n ≡ record_at (tree now) n
   same_held n far held = record_is old t n ∙ (λ i. cond (both_objects n far i) (Some (record_same n far held i)) None) ∙ sym (record_is now u n)
 
   -- where a record differs, the node is among them, or the object that it hangs on

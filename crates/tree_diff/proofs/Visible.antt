@@ -6,7 +6,7 @@ use Rattle.std.proofs.lemmas.Bool.Decides.{eqb_tells}
 use Rattle.ax_base.specs.Document.{Document, has, root, spot, children, lineage, ancestors, IsChild}
 use Rattle.ax_base.specs.Trees.{IsTree}
 use Rattle.ax_base.specs.Roles.{hides, prunes, ignored}
-use Rattle.ax_base.specs.Context.{is_out, is_shut, is_hidden, is_pruned}
+use Rattle.ax_base.specs.Context.{is_out, is_shut, is_hidden, is_presentational_descendant}
 use Rattle.ax_base.specs.Kids.{kids, taken, objects}
 use Rattle.ax_base.proofs.Joins.{Contains-flat_map}
 use Rattle.ax_base.proofs.KidsLaws.{out-child, kids-children, lineage-ancestors, root_visible}
@@ -21,7 +21,7 @@ module _ (d : Document) (t : IsTree d) where
       let shut = (or_parts (hides (spot d n)) (is_shut d p) (sym (out-child d t p n child) ∙ visible)).1 in
       let parts = or_parts (is_hidden d p) (list_any (λ a. prunes (spot d a)) (lineage d p)) shut in
       let above = or_parts (prunes (spot d p)) (list_any (λ a. prunes (spot d a)) (ancestors d p)) (ap (list_any (λ a. prunes (spot d a))) (sym (lineage-ancestors d t p (has_children d p n child))) ∙ parts.1) in
-      or_from (is_hidden d p) (is_pruned d p) parts.0 above.1
+      or_from (is_hidden d p) (is_presentational_descendant d p) parts.0 above.1
 
   -- what a child gives, its parent has among its kids
   gives : (p n k : ℕ) → IsChild d p n → Contains (taken d n) k → Contains (kids d p) k

@@ -8,9 +8,9 @@ ghost use Rattle.ax_dom.specs.Changes.{inserted, removed, moved, focus_outside, 
 ghost use Rattle.ax_dom.specs.Refusals.{MayInsert, MayMove, may_focus, edit_cause, is_too_long, has_wrong_runs};
 
 use super::{Dom, NO_FRAME};
-use crate::cell::{Cell, Slot};
+use crate::cell::{Cell, NodeEntry};
 use crate::edit::Edit;
-use crate::slots::placed_anew;
+use crate::node_map::copy_with_moved;
 use ax_base::{Body, Ids, NoMemory, ObjId, Runs};
 use std::alloc::Global;
 
@@ -85,7 +85,10 @@ impl Dom {
         };
         let children = Ids::new(alloc);
         self.used.add(id)?;
-        match self.slots.hang(id, Slot { cell, children }, into, before) {
+        match self
+            .entries
+            .insert_child(id, NodeEntry { cell, children }, into, before)
+        {
             Ok(()) => Ok(()),
             Err(e) => {
                 self.used.remove(id);
@@ -103,7 +106,7 @@ impl Dom {
         ensures ok { OnOk result (self.new ≡ with_body self.old id (body_after e (body self.old id))) }
         ensures err { OnErr result (self.new ≡ self.old) }
     {
-        self.slots.amend(alloc, id, e)?;
+        self.entries.amend(alloc, id, e)?;
         Ok(())
     }
 
@@ -118,8 +121,8 @@ impl Dom {
         self.push_subtree(id, &mut gone)?;
         let from = self.parent_of(id);
         let focus = focus_without(&self.focus(), gone.as_slice());
-        self.slots.take_out(&from, id);
-        self.slots.remove_all(gone.as_slice());
+        self.entries.unlink_child(&from, id);
+        self.entries.remove_all(gone.as_slice());
         self.focus = focus;
         Ok(())
     }
@@ -138,13 +141,13 @@ impl Dom {
     {
         let mut whole = Ids::new(alloc);
         self.push_subtree(id, &mut whole)?;
-        let list = placed_anew(alloc, self.children_of(into), before, id)?;
+        let list = copy_with_moved(alloc, self.children_of(into), before, id)?;
         let base = u32::from(self.depth_of(into)) + 1;
         let top = u32::from(self.depth_of(id));
         let from = self.parent_of(id);
-        self.slots.hang_anew(&from, id, into, list);
-        self.slots.set_parent(id, into);
-        self.slots.lift(whole.as_slice(), base, top);
+        self.entries.relink_child(&from, id, into, list);
+        self.entries.set_parent(id, into);
+        self.entries.rebase_depths(whole.as_slice(), base, top);
         Ok(())
     }
 

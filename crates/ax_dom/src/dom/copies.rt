@@ -15,10 +15,10 @@ impl Dom {
     {
         let mut nodes = Ids::new(alloc);
         self.push_subtree(ObjId::ROOT, &mut nodes)?;
-        let slots = self.slots.copy_of(alloc, nodes.as_slice())?;
+        let entries = self.entries.copy_of(alloc, nodes.as_slice())?;
         let used = self.used.copy(alloc)?;
         Ok(Dom {
-            slots,
+            entries,
             focus: self.focus,
             used,
         })

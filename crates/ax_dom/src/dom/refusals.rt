@@ -126,9 +126,9 @@ impl Dom {
     {
         match e {
             Edit::InsertElement { into, .. } | Edit::InsertText { into, .. } => {
-                self.is_deepest(*into)
+                self.is_at_max_depth(*into)
             }
-            Edit::Move { id, into, .. } => self.is_too_high(*id, *into),
+            Edit::Move { id, into, .. } => self.exceeds_depth(*id, *into),
             _ => false,
         }
     }
@@ -157,8 +157,8 @@ impl Dom {
     fn length_of(&self, id: ObjId) -> usize
         ensures { result ≡ length_of (body self.now id) }
     {
-        match self.slots.get(id) {
-            Some(slot) => length_of(&slot.cell.body),
+        match self.entries.get(id) {
+            Some(entry) => length_of(&entry.cell.body),
             None => 0,
         }
     }
@@ -194,14 +194,14 @@ impl Dom {
     fn is_text(&self, id: ObjId) -> bool
         ensures { result ≡ is_text (body self.now id) }
     {
-        match self.slots.get(id) {
-            Some(slot) => is_text(&slot.cell.body),
+        match self.entries.get(id) {
+            Some(entry) => is_text(&entry.cell.body),
             None => true,
         }
     }
 
     /// Whether a child of a node would have more than 64 ancestors.
-    fn is_deepest(&self, id: ObjId) -> bool
+    fn is_at_max_depth(&self, id: ObjId) -> bool
         ensures { result ≡ nat_lt MAX_DEPTH (depth self.now id + 1) }
     {
         u32::from(self.depth_of(id)) + 1 > MAX_DEPTH
@@ -211,8 +211,8 @@ impl Dom {
     pub(super) fn depth_of(&self, id: ObjId) -> u8
         ensures { result ≡ depth self.now id }
     {
-        match self.slots.get(id) {
-            Some(slot) => slot.cell.depth,
+        match self.entries.get(id) {
+            Some(entry) => entry.cell.depth,
             None => 0,
         }
     }
@@ -311,7 +311,7 @@ fn may_have_runs(end: usize, runs: &[Run]) -> bool
     runs.is_empty() || go_on(end, runs)
 }
 
-/// Whether runs go from the begin of a text to its end.
+/// Whether runs go from the start of a text to its end.
 fn go_on(end: usize, runs: &[Run]) -> bool
     ensures { result ≡ go_on end 0 0 runs.now }
 {

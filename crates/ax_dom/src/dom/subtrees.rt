@@ -4,7 +4,7 @@ ghost use Rattle.std.specs.List.{list_any};
 ghost use Rattle.ax_base.specs.Document.{children, depth, lineage};
 ghost use Rattle.ax_base.specs.Trees.{IsTree};
 ghost use Rattle.ax_dom.specs.Subtrees.{subtree};
-ghost use Rattle.ax_dom.specs.Refusals.{is_too_high};
+ghost use Rattle.ax_dom.specs.Refusals.{exceeds_depth};
 
 use super::Dom;
 use ax_base::{Ids, MAX_DEPTH, NoMemory, ObjId};
@@ -15,8 +15,8 @@ impl Dom {
         ensures value { result.now ≡ children self.now id }
         ensures tree { IsTree self.now }
     {
-        match self.slots.get(id) {
-            Some(slot) => slot.children.as_slice(),
+        match self.entries.get(id) {
+            Some(entry) => entry.children.as_slice(),
             None => &[],
         }
     }
@@ -35,8 +35,8 @@ impl Dom {
     }
 
     /// Whether some node would have more than 64 ancestors, if `id` hung on `into`.
-    pub(super) fn is_too_high(&self, id: ObjId, into: ObjId) -> bool
-        ensures { result ≡ is_too_high self.now id into }
+    pub(super) fn exceeds_depth(&self, id: ObjId, into: ObjId) -> bool
+        ensures { result ≡ exceeds_depth self.now id into }
     {
         let base = u32::from(self.depth_of(into)) + 1;
         let top = u32::from(self.depth_of(id));

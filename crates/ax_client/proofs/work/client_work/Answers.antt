@@ -1,6 +1,6 @@
 use Rattle.std.proofs.Common.{◌≡◌, ◌+◌, ◌∷◌, List, drop, refl, sym, ap, ◌∙◌, subst, arith}
 use Rattle.story_check.specs.declared.story.ClientLine.{ClientLine}
-use Rattle.story_check.specs.Stories.{Script}
+use Rattle.story_check.specs.Stories.{Story}
 use Rattle.ax_client.specs.Clients.{ClientStands}
 use Rattle.ax_client.proofs.Standing.{client_starts_at, next_line, room, ends_closed}
 use Rattle.ax_client.proofs.work.client_work.Goals as goal
@@ -24,7 +24,7 @@ line_done-requires-clause-stands g c =
     let lines = c.args.lines.now in
     let i = c.loop-line.line-index in
     let here = next_line lines i c.line-item.result c.loop-line-test.true c.line-item.is in
-    (drop (i + 1) lines, subst (λ (y : Script × List ClientLine). ClientStands y.0 y.1 c.loop-line.port.client c.loop-line.side) (λ j. (sym c.loop-line.invariant.own.1 j, here j)) c.loop-line.invariant.stands)
+    (drop (i + 1) lines, subst (λ (y : Story × List ClientLine). ClientStands y.0 y.1 c.loop-line.port.client c.loop-line.side) (λ j. (sym c.loop-line.invariant.own.1 j, here j)) c.loop-line.invariant.stands)
 
 pub returns-in-Err-clause-did : goal.returns-in-Err-clause-did
 returns-in-Err-clause-did g c =
@@ -32,7 +32,7 @@ returns-in-Err-clause-did g c =
     let i = c.loop-line.line-index in
     let here = next_line lines i c.line-item.result c.loop-line-test.true c.line-item.is in
     ends_closed _ _ c.line_done.new.port c.close.new.self _ c.loop-line.invariant.own.1 c.close.ensures
-    (c.in-Err.ensures.did (drop (i + 1) lines) (subst (λ (y : Script × List ClientLine). ClientStands y.0 y.1 c.loop-line.port.client c.loop-line.side) (λ j. (sym c.loop-line.invariant.own.1 j, here j)) c.loop-line.invariant.stands))
+    (c.in-Err.ensures.did (drop (i + 1) lines) (subst (λ (y : Story × List ClientLine). ClientStands y.0 y.1 c.loop-line.port.client c.loop-line.side) (λ j. (sym c.loop-line.invariant.own.1 j, here j)) c.loop-line.invariant.stands))
 
 pub loop-line-preserved : goal.loop-line-preserved
 loop-line-preserved g c =
@@ -42,6 +42,6 @@ loop-line-preserved g c =
     let same : c.loop-line.port.story ≡ c.args.port.story = c.loop-line.invariant.own.1 in
     record {
       own = (c.line_done.ensures.own.0 ∙ c.loop-line.invariant.own.0, c.line_done.ensures.own.1 ∙ same);
-      stands = subst (λ (s : Script). ClientStands s (drop (i + 1) lines) c.line_done.new.port.client c.in-Ok.next) same
-          (c.in-Ok.ensures.did (drop (i + 1) lines) (subst (λ (y : Script × List ClientLine). ClientStands y.0 y.1 c.loop-line.port.client c.loop-line.side) (λ j. (sym same j, here j)) c.loop-line.invariant.stands));
+      stands = subst (λ (s : Story). ClientStands s (drop (i + 1) lines) c.line_done.new.port.client c.in-Ok.next) same
+          (c.in-Ok.ensures.did (drop (i + 1) lines) (subst (λ (y : Story × List ClientLine). ClientStands y.0 y.1 c.loop-line.port.client c.loop-line.side) (λ j. (sym same j, here j)) c.loop-line.invariant.stands));
     }

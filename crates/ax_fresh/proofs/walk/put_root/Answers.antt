@@ -8,8 +8,8 @@ use Rattle.ax_base.specs.Kids.{objects}
 use Rattle.ax_base.proofs.KidsLaws.{root_visible, live-root}
 use Rattle.ax_base.proofs.Objects.{root_is_object}
 use Rattle.ax_dom.specs.declared.cell.Cell.{Cell}
-use Rattle.ax_record.specs.Records.{holder}
-use Rattle.ax_record.proofs.TreeOf.{holder-root}
+use Rattle.ax_record.specs.Records.{object_parent}
+use Rattle.ax_record.proofs.TreeOf.{object_parent-root}
 use Rattle.ax_fresh.proofs.Gathered.{cell_is, live_is}
 use Rattle.ax_fresh.proofs.walk.put_root.Goals as goal
 
@@ -29,7 +29,7 @@ pub put_object-requires-clause-parent : goal.put_object-requires-clause-parent
 put_object-requires-clause-parent g c =
     let d = c.args.dom.now in
     let id_is : c.in-Some.cell.now.id ≡ root = ap (λ (x : Cell). x.id) (cell_is d root c.in-Some.cell.now c.in-Some.ensures.value) in
-    sym (ap (holder d) id_is ∙ holder-root d c.in-Some.ensures.tree)
+    sym (ap (object_parent d) id_is ∙ object_parent-root d c.in-Some.ensures.tree)
 
 pub put_object-requires-clause-live : goal.put_object-requires-clause-live
 put_object-requires-clause-live g c =

@@ -1,5 +1,5 @@
 use Rattle.std.proofs.Common.{◌≡◌, ◌≤◌, length, sym, ap, ◌∙◌, subst}
-use Rattle.story_check.specs.Stories.{Script, flushes}
+use Rattle.story_check.specs.Stories.{Story, flushes}
 use Rattle.story_check.specs.Moments.{tree_at, AreTrees}
 use Rattle.story_check.specs.declared.story.ClientLine.{ClientLine}
 use Rattle.story_check.proofs.Trees.{are_trees}
@@ -17,10 +17,10 @@ pair-requires-clause-client g c κs within =
     let lines = c.client-2.ensures in (
       made.tables.1,
       made.records.1,
-      lines.is ∙ ap (λ (s : Script). s.client) (sym made.stories.2),
+      lines.is ∙ ap (λ (s : Story). s.client) (sym made.stories.2),
       subst (λ l. length l ≤ 16384) (sym lines.is) lines.most,
-      c.flushes.ensures.is ∙ ap (λ (s : Script). flushes s.page) (sym made.stories.2),
-      subst (λ (s : Script). AreTrees s) (sym made.stories.2) (are_trees c.args.story.now c.requires.accepted),
+      c.flushes.ensures.is ∙ ap (λ (s : Story). flushes s.page) (sym made.stories.2),
+      subst (λ (s : Story). AreTrees s) (sym made.stories.2) (are_trees c.args.story.now c.requires.accepted),
       tree_starts c.args.story.now c.in_ok-ports.client.story _ c.in_ok-live.live made.stories.2 c.in_ok-tree.ensures (live_starts c.args.story.now _ _ c.in_ok-live.ensures c.in_ok-document.ensures),
     )
 

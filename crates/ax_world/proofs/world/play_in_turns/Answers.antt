@@ -1,6 +1,6 @@
 use Rattle.std.proofs.Common.{◌≡◌, List, [], sym, ap, ◌∙◌, subst}
 use Rattle.ax_ask.specs.declared.transcripts.Entry.{Entry}
-use Rattle.story_check.specs.Stories.{Script, flushes}
+use Rattle.story_check.specs.Stories.{Story, flushes}
 use Rattle.ax_answer.specs.Legal.{IsLegal}
 use Rattle.ax_world.specs.Machine.{State, transcript_in_turns}
 use Rattle.ax_world.specs.Worlds.{Play}
@@ -13,7 +13,7 @@ returns c =
     let begins = ap (λ (w : Play). w.state) c.in_ok-world.ensures in
     let over = rounds_alone c.args.story.now _ _ c.requires.free begins is.rounds is.over in
     let entries = c.into_transcript.ensures.entries ∙ ap (λ (x : State). x.entries) over in
-    let count = c.into_transcript.ensures.flushes ∙ ap (λ (s : Script). flushes s.page) is.story in
+    let count = c.into_transcript.ensures.flushes ∙ ap (λ (s : Story). flushes s.page) is.story in
     let told : c.into_transcript.result ≡ transcript_in_turns c.args.story.now = λ i. record { entries = entries i; flushes = count i } in
     record {
       value = told;

@@ -1,5 +1,5 @@
 use Rattle.std.proofs.Common.{◌≡◌, sym, ap, subst, ◌∙◌}
-use Rattle.story_check.specs.Stories.{Script, flushes}
+use Rattle.story_check.specs.Stories.{Story, flushes}
 use Rattle.ax_answer.specs.Legal.{IsLegalTranscript}
 use Rattle.ax_world.specs.Machine.{State, transcript_of}
 use Rattle.ax_world.specs.Worlds.{Play}
@@ -17,6 +17,6 @@ returns c =
     let done = all_done _ _ _ c.loop-who.who-index _ c.turns-who-items.ensures c.loop-who-test.false c.loop-who.invariant.state in
     let over = rounds_end c.args.story.now c.loop-who.world.state _ c.requires.free done c.in_ok-in_rounds.ensures.rounds c.in_ok-in_rounds.ensures.over in
     let entries = c.into_transcript.ensures.entries ∙ ap (λ (x : State). x.entries) over in
-    let count = c.into_transcript.ensures.flushes ∙ ap (λ (s : Script). flushes s.page) c.in_ok-in_rounds.ensures.story in
+    let count = c.into_transcript.ensures.flushes ∙ ap (λ (s : Story). flushes s.page) c.in_ok-in_rounds.ensures.story in
     let is : c.into_transcript.result ≡ transcript_of c.args.story.now = λ i. record { entries = entries i; flushes = count i } in
     record { value = is; legal = subst (IsLegalTranscript c.args.story.now) (sym is) (c.playing_ends.ensures.legal c.args.story.now c.requires.free) }

@@ -1,6 +1,6 @@
 use Rattle.std.proofs.Common.{◌≡◌, ◌+◌, ◌∷◌, List, drop, refl, sym, ap, ◌∙◌, subst}
 use Rattle.story_check.specs.declared.story.PageLine.{PageLine}
-use Rattle.story_check.specs.Stories.{Script}
+use Rattle.story_check.specs.Stories.{Story}
 use Rattle.live_tree.specs.LiveTrees.{LiveDocument}
 use Rattle.page_thread.specs.declared.work.Side.{Side}
 use Rattle.page_thread.specs.Pages.{PageStands}
@@ -20,7 +20,7 @@ line_done-requires-clause-stands g c =
     let i = c.loop-line.line-index in
     let here = next_line items i c.line-item.result c.loop-line-test.true c.line-item.is in
     let same : c.loop-line.port.story ≡ c.args.story.now = c.loop-line.invariant.own.1 ∙ c.requires.story in
-    (drop (i + 1) items, subst (λ (y : Script × List PageLine). PageStands y.0 y.1 c.loop-line.port.page c.loop-line.side) (λ j. (sym same j, here j)) c.loop-line.invariant.stands)
+    (drop (i + 1) items, subst (λ (y : Story × List PageLine). PageStands y.0 y.1 c.loop-line.port.page c.loop-line.side) (λ j. (sym same j, here j)) c.loop-line.invariant.stands)
 
 pub returns-in-Err-clause-did : goal.returns-in-Err-clause-did
 returns-in-Err-clause-did g c =
@@ -29,7 +29,7 @@ returns-in-Err-clause-did g c =
     let here = next_line items i c.line-item.result c.loop-line-test.true c.line-item.is in
     let same : c.loop-line.port.story ≡ c.args.story.now = c.loop-line.invariant.own.1 ∙ c.requires.story in
     ends_closed _ _ c.line_done.new.port c.close.new.self _ same c.close.ensures
-    (c.in-Err.ensures.did (drop (i + 1) items) (subst (λ (y : Script × List PageLine). PageStands y.0 y.1 c.loop-line.port.page c.loop-line.side) (λ j. (sym same j, here j)) c.loop-line.invariant.stands))
+    (c.in-Err.ensures.did (drop (i + 1) items) (subst (λ (y : Story × List PageLine). PageStands y.0 y.1 c.loop-line.port.page c.loop-line.side) (λ j. (sym same j, here j)) c.loop-line.invariant.stands))
 
 pub loop-line-preserved : goal.loop-line-preserved
 loop-line-preserved g c =
@@ -39,6 +39,6 @@ loop-line-preserved g c =
     let same : c.loop-line.port.story ≡ c.args.story.now = c.loop-line.invariant.own.1 ∙ c.requires.story in
     record {
       own = (c.line_done.ensures.own.0 ∙ c.loop-line.invariant.own.0, c.line_done.ensures.own.1 ∙ c.loop-line.invariant.own.1);
-      stands = subst (λ (s : Script). PageStands s (drop (i + 1) items) c.line_done.new.port.page c.in-Ok.next) same
-          (c.in-Ok.ensures.did (drop (i + 1) items) (subst (λ (y : Script × List PageLine). PageStands y.0 y.1 c.loop-line.port.page c.loop-line.side) (λ j. (sym same j, here j)) c.loop-line.invariant.stands));
+      stands = subst (λ (s : Story). PageStands s (drop (i + 1) items) c.line_done.new.port.page c.in-Ok.next) same
+          (c.in-Ok.ensures.did (drop (i + 1) items) (subst (λ (y : Story × List PageLine). PageStands y.0 y.1 c.loop-line.port.page c.loop-line.side) (λ j. (sym same j, here j)) c.loop-line.invariant.stands));
     }

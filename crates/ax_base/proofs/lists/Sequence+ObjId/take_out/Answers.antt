@@ -14,7 +14,7 @@ loop-from-preserved-then-from-len c =
     let low : at < length xs = (let test = c.if-from-len.true in let size = c.len-in-loop-from.ensures in omega arith) in
     let taken : c.remove.new.self.items ≡ remove xs at = c.remove.ensures.items in
     let before : list_any (λ x. x == c.args.id) (take at xs) ≡ false =
-        ap (λ l. list_any (λ x. x == c.args.id) (take at l)) (sym same) ∙ c.first_place-from.ensures.before (ap (λ l. list_any (λ x. x == c.args.id) (take c.loop-from.from l)) same ∙ c.loop-from.invariant.1) in
+    ap (λ l. list_any (λ x. x == c.args.id) (take at l)) (sym same) ∙ c.first_place-from.ensures.before (ap (λ l. list_any (λ x. x == c.args.id) (take c.loop-from.from l)) same ∙ c.loop-from.invariant.1) in
     let here = c.first_place-from.ensures.here (subst (λ l. at < length l) (sym same) low) in (
       omega arith,
       ap (λ l. list_any (λ x. x == c.args.id) (take at l)) taken ∙ ap (list_any (λ x. x == c.args.id)) (front_stays xs at low) ∙ before,

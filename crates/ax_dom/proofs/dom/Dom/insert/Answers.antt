@@ -5,11 +5,11 @@ use Rattle.std.specs.BTreeMap.{is_at}
 use Rattle.std.specs.Set.{remove_key}
 use Rattle.ax_dom.proofs.dom.Dom.insert.Goals as goal
 
-pub hang-requires-clause-known : goal.hang-requires-clause-known
-hang-requires-clause-known c = into_there _ _ _ c.self.invariant _ c.self.view_is _ _ c.args.before.now c.args.body c.requires
+pub insert_child-requires-clause-known : goal.insert_child-requires-clause-known
+insert_child-requires-clause-known c = into_there _ _ _ c.self.invariant _ c.self.view_is _ _ c.args.before.now c.args.body c.requires
 
-pub hang-requires-clause-fresh : goal.hang-requires-clause-fresh
-hang-requires-clause-fresh c = id_missing _ _ _ c.self.invariant _ c.self.view_is _ _ c.args.before.now c.args.body c.requires
+pub insert_child-requires-clause-fresh : goal.insert_child-requires-clause-fresh
+insert_child-requires-clause-fresh c = id_missing _ _ _ c.self.invariant _ c.self.view_is _ _ c.args.before.now c.args.body c.requires
 
 pub invariant_of-self-in-Ok : goal.invariant_of-self-in-Ok
 invariant_of-self-in-Ok c = kept_inserted _ _ _ c.self.invariant _ c.self.view_is _ _ c.args.before.now c.args.body c.requires _ c.depth_of.ensures _ c.new-children.ensures _ c.in-Ok.ensures.ok _ c.in_ok-add.ensures.ok

@@ -2,7 +2,7 @@ use Rattle.std.proofs.Common.{◌≡◌, ◌≤◌, ◌<◌, Some, slice_get, sy
 use Rattle.std.proofs.lemmas.Option.{slice_get-get_or}
 use Rattle.ax_ask.specs.declared.transcripts.EntryBody.TheVariants.{Await as AwaitBody}
 use Rattle.story_check.specs.declared.story.ClientLine.TheVariants.{Await}
-use Rattle.story_check.specs.Stories.{Script}
+use Rattle.story_check.specs.Stories.{Story}
 use Rattle.ax_world.specs.Machine.{printed}
 use Rattle.ax_world.specs.Worlds.{Play}
 use Rattle.ax_world.proofs.ClientTurns.{await_did, await_waits}
@@ -11,7 +11,7 @@ use Rattle.ax_world.proofs.world.World.client_turn.Goals as goal
 pub returns-in_ok-world-in-Await : goal.returns-in_ok-world-in-Await
 returns-in_ok-world-in-Await c =
     let old : Play = c.args.self in
-    let s : Script = c.args.story.now in
+    let s : Story = c.args.story.now in
     let line : slice_get s.client old.state.client_done ≡ Some (Await c.in-Await.need) = sym (λ j. slice_get (c.client-client.ensures.is j) (c.self.view_is j).state.client_done) ∙ (slice_get-get_or _ _ _ c.if-self-client.false ∙ ap Some (sym c.index-client-self.is ∙ c.in-Await.is)) in
     let need : c.number.result ≡ c.in-Await.need = c.number.ensures in
     let have : c.number-in-Await.result ≡ c.self.inside.published = c.number-in-Await.ensures in
@@ -23,7 +23,7 @@ returns-in_ok-world-in-Await c =
 pub returns-else-number : goal.returns-else-number
 returns-else-number c =
     let old : Play = c.args.self in
-    let s : Script = c.args.story.now in
+    let s : Story = c.args.story.now in
     let line : slice_get s.client old.state.client_done ≡ Some (Await c.in-Await.need) = sym (λ j. slice_get (c.client-client.ensures.is j) (c.self.view_is j).state.client_done) ∙ (slice_get-get_or _ _ _ c.if-self-client.false ∙ ap Some (sym c.index-client-self.is ∙ c.in-Await.is)) in
     let need : c.number.result ≡ c.in-Await.need = c.number.ensures in
     let have : c.number-in-Await.result ≡ c.self.inside.published = c.number-in-Await.ensures in

@@ -5,4 +5,4 @@ pub patch-requires : goal.patch-requires
 patch-requires c = log_fits _ _ _ _ _ _ c.self.invariant.0
 
 pub invariant_of-result : goal.invariant_of-result
-invariant_of-result c = (kept_take _ _ _ _ _ _ _ _ _ _ c.self.invariant.0 c.empty.ensures c.in_ok-mine.ensures.tree c.in_ok-mine.ensures.notices c.in_ok-extend.ensures.ok, c.self.invariant.1)
+invariant_of-result c = (kept_take _ _ _ _ _ _ _ _ _ _ c.self.invariant.0 c.empty.ensures c.in_ok-client_tree.ensures.tree c.in_ok-client_tree.ensures.notices c.in_ok-extend.ensures.ok, c.self.invariant.1)

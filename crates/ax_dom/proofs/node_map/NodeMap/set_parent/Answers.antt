@@ -1,0 +1,17 @@
+use Rattle.std.proofs.Common.{◌∙◌, ap, Some}
+use Rattle.ax_dom.specs.declared.cell.NodeEntry.{NodeEntry}
+use Rattle.ax_dom.proofs.Rewrites.{rewritten_at, rewritten_none}
+use Rattle.ax_dom.proofs.node_map.NodeMap.set_parent.Goals as goal
+use Rattle.ax_dom.proofs.node_map.NodeMap.set_parent.Goals.{in-Some, in_default}
+
+pub returns : goal.returns
+returns c =
+    let es = c.self.inside.map in
+    let fs = c.match-get_mut.self-inside.map in
+    let make : NodeEntry → NodeEntry = λ s. record s { cell = record s.cell { parent = Some c.args.parent } } in
+    elim c.match-get_mut.branch [
+      | in-Some w ↦
+          let h = c.get_mut.follows.holds (record w.in-Some.entry.now { cell = record w.in-Some.entry.now.cell { parent = Some c.args.parent } }) in
+          rw c.self.view_is at (rewritten_at es fs c.args.id make w.in-Some.entry.now w.in-Some.ensures.value (ap (λ i. i.map) w.self-inside-is ∙ h))
+      | in_default w ↦ rw c.self.view_is at (rewritten_none es fs c.args.id make w.in_default.ensures.value (ap (λ i. i.map) w.self-inside-is ∙ c.get_mut.follows.holds-at-none))
+    ]
