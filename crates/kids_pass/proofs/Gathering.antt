@@ -1,9 +1,7 @@
 -- What a loop over children gathers.
-use Rattle.std.proofs.Common.{◌≡◌, ℕ, zero, suc, ◌+◌, ◌-◌, ◌≤◌, List, [], ◌∷◌, ◌++◌, length, take, drop, Bool, true, false, cond, Some, Contains, refl, sym, ap, ◌∙◌, arith}
+use Rattle.std.proofs.Common.{◌≡◌, ℕ, zero, suc, ◌+◌, ◌≤◌, List, [], ◌∷◌, ◌++◌, length, take, drop, Bool, true, false, cond, Some, Contains, refl, sym, ap, ◌∙◌, arith}
 use Rattle.std.specs.List.{flat_map}
 use Rattle.std.proofs.lemmas.Bool.{false≢true}
-use Rattle.std.proofs.lemmas.List.{take_all, length-drop}
-use Rattle.std.proofs.lemmas.Grind.{flat_map-append}
 use Rattle.ax_base.specs.Document.{Document, children, spot, IsChild}
 use Rattle.ax_base.specs.Kids.{kids, taken}
 use Rattle.ax_base.specs.Context.{is_out}
@@ -16,22 +14,12 @@ use Rattle.ax_roles.specs.declared.inclusion.Inclusion.{Inclusion}
 use Rattle.ax_roles.specs.declared.inclusion.Inclusion.TheVariants.{Included, Ignored, Excluded}
 use Rattle.ax_roles.specs.Inclusion.{inclusion_by, is_object_by, inclusion}
 
-take_plus : (cs : List ℕ) (i n k : ℕ) → k ≡ i + n → i ≤ length cs → take k cs ≡ take i cs ++ take n (drop i cs)
+-- the first, and some of those behind them
+pub take_plus : (cs : List ℕ) (i n k : ℕ) → k ≡ i + n → i ≤ length cs → take k cs ≡ take i cs ++ take n (drop i cs)
 take_plus cs zero n k is low = let same : k ≡ n = omega arith in ap (λ j. take j cs) same
 take_plus [] (suc i) n k is low = absurd (omega arith)
 take_plus (c ∷ cs) (suc i) n zero is low = absurd (omega arith)
 take_plus (c ∷ cs) (suc i) n (suc k) is low = ap (λ l. c ∷ l) (take_plus cs i n k (omega arith) (omega arith))
-
--- what the first give, and some of those that are left
-pub front_given : (f : ℕ → List ℕ) (cs old new : List ℕ) (i n : ℕ) → i ≤ length cs → old ≡ flat_map f (take i cs) → new ≡ old ++ flat_map f (take n (take (length cs - i) (drop i cs))) → new ≡ flat_map f (take (i + n) cs)
-front_given f cs old new i n low so_far adds =
-    adds
-    ∙ ap (λ l. old ++ flat_map f (take n l)) (take_all (length cs - i) (drop i cs) short)
-    ∙ ap (λ l. l ++ flat_map f (take n (drop i cs))) so_far
-    ∙ sym (ap (flat_map f) (take_plus cs i n (i + n) refl low) ∙ flat_map-append f (take i cs) (take n (drop i cs)))
-  where
-    short : length (drop i cs) ≤ length cs - i
-    short = let left : length (drop i cs) ≡ length cs - i = length-drop i cs in omega arith
 
 flat_map_same : (f g : ℕ → List ℕ) (cs : List ℕ) → ((c : ℕ) → Contains cs c → f c ≡ g c) → flat_map f cs ≡ flat_map g cs
 flat_map_same f g [] same = refl

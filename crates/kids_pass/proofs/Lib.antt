@@ -1,2 +1,4 @@
 mod Descending
+mod Entries
 mod Gathering
+mod Given

@@ -4,5 +4,6 @@
 mod children;
 mod kept;
 mod renewing;
+mod stamps;
 
 pub use children::Kids;

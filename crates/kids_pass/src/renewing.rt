@@ -8,7 +8,6 @@ ghost use Rattle.node_order.specs.Orders.{IsFromAbove};
 ghost use Rattle.ctx_pass.specs.Contexts.{AreContextsOf};
 ghost use Rattle.kids_pass.specs.Kids.{IsKidsKept, AreKidsOf};
 
-use crate::children::NodeKids;
 use crate::kept::KeptKids;
 use ax_base::{NoMemory, ObjId, Steps};
 use ax_dom::Dom;
@@ -59,12 +58,7 @@ fn renew_one<L: Ledger>(
 {
     let inclusion = inclusion_of(dom, contexts, id, steps);
     let children = dom.children(id, steps);
-    let list = kids.gathered(alloc, children)?;
-    let kept = NodeKids {
-        inclusion,
-        kids: list,
-    };
-    kids.keep(id, kept)
+    kids.renew(alloc, id, inclusion, children)
 }
 
 /// How a node takes part in the tree.
