@@ -4,6 +4,7 @@ ghost use Rattle.ax_base.specs.Document.{Document, has};
 ghost use Rattle.ax_base.specs.Kids.{kids};
 ghost use Rattle.ax_dom.specs.Among.{is_in};
 ghost use Rattle.node_order.specs.Orders.{IsFromAbove};
+ghost use Rattle.ax_roles.specs.Inclusion.{inclusion, is_object_by};
 ghost use Rattle.ctx_pass.specs.Contexts.{AreContextsOf};
 ghost use Rattle.kids_pass.specs.Kids.{IsKidsKept, AreKidsOf};
 
@@ -76,5 +77,12 @@ impl Kids {
         ensures { (d : Document) → AreKidsOf d self.now → has d id ≡ true → result.now ≡ kids d id }
     {
         self.kept.kids(id)
+    }
+
+    /// Whether a node of the document is an object of its tree. It reads no node.
+    pub fn is_object(&self, id: ObjId) -> bool
+        ensures { (d : Document) → AreKidsOf d self.now → has d id ≡ true → result ≡ is_object_by (inclusion d id) }
+    {
+        self.kept.is_object(id)
     }
 }

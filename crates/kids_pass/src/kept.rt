@@ -270,7 +270,7 @@ impl KeptKids {
     }
 
     /// Whether a node is an object by what is kept of it.
-    fn is_object(&self, id: ObjId) -> bool
+    pub(crate) fn is_object(&self, id: ObjId) -> bool
         ensures { result ≡ is_object_or false (kids_at self.now id) }
     {
         match self.by_node.get(id) {

@@ -120,20 +120,20 @@ module _ (kept : Tree) (d : Document) (p : Passes) (ns : List ℕ) (right : IsRi
     pub in_order : IsFromAbove d order → length order ≤ length listed → IsOrderOf d listed down
     in_order from few = record { order = subst (IsFromAbove d) (sym same) from; same = down_among; few = subst (λ (l : List ℕ). length l ≤ length listed) (sym same) few }
 
--- the reads of a renewal: one for each node that is renewed to put them in order, seven for what is kept of it, and four for its records
-pub order_read : (ns listed : List ℕ) (first ordered : ℕ) → listed ≡ ns → ordered ≤ first + length listed → ordered ≤ first + 12 * length ns
+-- the reads of a renewal: one for each node that is renewed to put them in order, seven for what is kept of it, and two for its records
+pub order_read : (ns listed : List ℕ) (first ordered : ℕ) → listed ≡ ns → ordered ≤ first + length listed → ordered ≤ first + 10 * length ns
 order_read ns listed first ordered is read = let same = ap length is in omega arith
 
-pub passes_read : (ns listed order down : List ℕ) (first ordered passed : ℕ) → listed ≡ ns → down ≡ order → length order ≤ length listed → ordered ≤ first + length listed → passed ≤ ordered + 7 * length down → passed ≤ first + 12 * length ns
+pub passes_read : (ns listed order down : List ℕ) (first ordered passed : ℕ) → listed ≡ ns → down ≡ order → length order ≤ length listed → ordered ≤ first + length listed → passed ≤ ordered + 7 * length down → passed ≤ first + 10 * length ns
 passes_read ns listed order down first ordered passed is at few read more = let same = ap length is in let all = ap length at in omega arith
 
-pub all_read : (ns listed order down : List ℕ) (first ordered passed last : ℕ) → listed ≡ ns → down ≡ order → length order ≤ length listed → ordered ≤ first + length listed → passed ≤ ordered + 7 * length down → last ≤ passed + 4 * length listed
-    → last ≤ first + 12 * length ns
+pub all_read : (ns listed order down : List ℕ) (first ordered passed last : ℕ) → listed ≡ ns → down ≡ order → length order ≤ length listed → ordered ≤ first + length listed → passed ≤ ordered + 7 * length down → last ≤ passed + 2 * length listed
+    → last ≤ first + 10 * length ns
 all_read ns listed order down first ordered passed last is at few read more rest = let same = ap length is in let all = ap length at in omega arith
 
 -- those of a flush, with three for what the marks weigh
 pub flush_read : (dom : MarkedDocument) (self : LiveDocument) (shown : Tree) → live_document shown dom ≡ self → (ns : List ℕ) → ns ≡ reach dom.document dom.marks → (first found last : ℕ)
-    → found ≤ first + 3 * weight dom.document dom.marks → last ≤ found + 12 * length ns → last ≤ first + 15 * weight self.document self.marks
+    → found ≤ first + 3 * weight dom.document dom.marks → last ≤ found + 10 * length ns → last ≤ first + 13 * weight self.document self.marks
 flush_read dom self shown view ns is first found last reached renewed =
     let few = reach_weighs dom.document dom.marks ns is in
     let same : weight dom.document dom.marks ≡ weight self.document self.marks = ap (λ (x : LiveDocument). weight x.document x.marks) view in

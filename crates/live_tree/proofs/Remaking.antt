@@ -1,6 +1,7 @@
 -- The records that are made anew are those of the tree.
-use Rattle.std.proofs.Common.{◌≡◌, inl, inr, ℕ, ◌+◌, ◌<◌, length, get_or, take, drop, append_assoc, List, [], ◌∷◌, ◌++◌, Bool, true, false, cond, not, ◌||◌, ◌&&◌, Option, Some, None, Contains, refl, sym, ap, subst, ◌∙◌, eqb, ◌==◌, arith}
+use Rattle.std.proofs.Common.{◌≡◌, ◌⊎◌, inl, inr, ℕ, ◌+◌, ◌<◌, length, get_or, take, drop, append_assoc, List, [], ◌∷◌, ◌++◌, Bool, true, false, cond, not, ◌||◌, ◌&&◌, Option, Some, None, Contains, refl, sym, ap, subst, ◌∙◌, eqb, ◌==◌, arith}
 use Rattle.std.specs.Prelude.{filter}
+use Rattle.std.specs.Option.{option_map_or}
 use Rattle.std.specs.List.{flat_map}
 use Rattle.std.specs.Ordering.{nat_cmp}
 use Rattle.std.specs.BTreeMap.{insert_entry}
@@ -27,22 +28,25 @@ use Rattle.ax_dom.specs.Among.{is_in}
 use Rattle.ax_dom.specs.declared.cell.Cell.{Cell}
 use Rattle.ax_dom.specs.NodeMaps.{cell_of, cell_at}
 use Rattle.ax_roles.specs.Inclusion.{inclusion_by, is_object_by, inclusion}
-use Rattle.ax_fresh.specs.Contents.{record_by}
+use Rattle.ax_fresh.specs.Contents.{record_by, same_record}
 use Rattle.ax_fresh.specs.Gathering.{with_records}
 use Rattle.ax_fresh.proofs.Put.{with_records-append}
+use Rattle.ax_fresh.proofs.Sameness.{record_is as same_record_is}
 use Rattle.ax_record.specs.declared.record.Record.{Record}
 use Rattle.ax_record.specs.Tree.{Tree, entry_at, record_at, kids_of, IsKid}
 use Rattle.ax_record.specs.ObjectTrees.{IsObjectTree}
 use Rattle.ax_record.specs.Records.{tree, record_of, object_parent, is_object, frame_of, chars_of, runs_of}
-use Rattle.ax_record.proofs.TreeOf.{object_is, is_one, record_is, kids_are, kid_is}
+use Rattle.ax_record.proofs.TreeOf.{object_is, is_one, record_is, kids_are, kid_is, tree_hangs}
 use Rattle.tree_diff.specs.Alike.{IsAlike}
 use Rattle.tree_diff.specs.Lost.{lost}
 use Rattle.tree_diff.specs.Candidates.{hung_on, is_moved, moved_kids, candidates, IsSortedFrom}
 use Rattle.tree_diff.proofs.Covering.{in_left, in_right, either_side}
 use Rattle.tree_diff.proofs.Gone.{lost_gone}
+use Rattle.tree_diff.proofs.Losing.{none_gone}
+use Rattle.tree_diff.proofs.Moving.{none_moved}
 use Rattle.tree_diff.proofs.Visible.{object_from, objects_visible}
 use Rattle.dirty_set.proofs.Firsts.{kept_cases}
-use Rattle.live_tree.specs.Remaking.{object_at, remade, IsOrderOf, AreHungOn, AreNotAmong}
+use Rattle.live_tree.specs.Remaking.{is_same, fresh_at, same_at, staying, remade, IsOrderOf, AreHungOn, AreNotAmong}
 
 pub none_some : {X : Type 0} (x : X) → None ≡ Some x → ⊥
 none_some x e = cc
@@ -74,6 +78,15 @@ made_of d n c of at above below name description is role_is live_is above_is bel
     let whole : of ≡ role_of (n == root) (body d n) = role_is ∙ ap (λ (x : Cell). role_of (n == root) x.body) is in
     λ i. record_by (is i) (whole i) (live_is i) (above_is i) (below_is i) (name_is i) (description_is i)
 
+-- a record that passes the test is the one that is found
+same_found : (o : Option Record) (r : Record) → option_map_or (λ (was : Record). same_record was r) o false ≡ true → o ≡ Some r
+same_found None r e = absurd (false≢true e)
+same_found (Some was) r e = ap Some (same_record_is was r e)
+
+-- a document's tree hangs together
+pub was_hangs : (kept : Tree) (old : Document) → IsTree old → kept ≡ tree old → IsObjectTree kept
+was_hangs kept old u is = subst IsObjectTree (sym is) (tree_hangs old u)
+
 -- those of some that moved are not among the nodes
 pub some_stay : (before : Tree) (ns : List ℕ) (n : ℕ) (ks all : List ℕ) → ks ≡ filter (is_moved before ns n) all → AreNotAmong ns ks
 some_stay before ns n ks all some k inside = off (hung_on before n k) (is_in ns k) refl (kept_cases (is_moved before ns n) all k (subst (λ l. Contains l k) some inside)).1
@@ -102,12 +115,17 @@ pub put_is : (d : Document) (es new : List (ℕ × Record)) (object : Record) (m
 put_is d es new object m n is object_is same = is ∙ (λ i. insert_entry nat_cmp es (object_is i).id (object_is i)) ∙ (λ i. insert_entry nat_cmp es (same i) (record_of d (same i)))
 
 -- records that are put in twice, one after another
-pub both_made : (d : Document) (start first whole : List (ℕ × Record)) (xs ys : List ℕ) → start ≡ [] → first ≡ with_records d start xs → whole ≡ with_records d first ys → whole ≡ with_records d [] (xs ++ ys)
-both_made d start first whole xs ys none one both = both ∙ ap (λ es. with_records d es ys) (one ∙ ap (λ es. with_records d es xs) none) ∙ sym (with_records-append d [] xs ys)
+pub both_made : (d : Document) (first whole : List (ℕ × Record)) (xs ys : List ℕ) → first ≡ with_records d [] xs → whole ≡ with_records d first ys → whole ≡ with_records d [] (xs ++ ys)
+both_made d first whole xs ys one both = both ∙ ap (λ es. with_records d es ys) one ∙ sym (with_records-append d [] xs ys)
 
--- ids that are added to none
-pub only_those : (start first whole ys : List ℕ) → start ≡ [] → first ≡ start → whole ≡ first ++ ys → whole ≡ ys
-only_those start first whole ys none same more = more ∙ ap (λ l. l ++ ys) (same ∙ none)
+-- what gives nothing may be left out
+given_by_some : (f : ℕ → List ℕ) (keep : ℕ → Bool) (xs : List ℕ) → ((n : ℕ) → keep n ≡ false → f n ≡ []) → flat_map f (filter keep xs) ≡ flat_map f xs
+given_by_some f keep [] none = refl
+given_by_some f keep (x ∷ xs) none = go (keep x) refl (given_by_some f keep xs none)
+  where
+    go : (b : Bool) → keep x ≡ b → flat_map f (filter keep xs) ≡ flat_map f xs → flat_map f (cond b (x ∷ filter keep xs) (filter keep xs)) ≡ f x ++ flat_map f xs
+    go true is rest = ap (λ l. f x ++ l) rest
+    go false is rest = rest ∙ ap (λ l. l ++ flat_map f xs) (sym (none x is))
 
 module _ (d : Document) (t : IsTree d) where
   no_object : (n : ℕ) → (Contains (objects d) n → ⊥) → is_object d n ≡ false
@@ -131,7 +149,7 @@ module _ (d : Document) (t : IsTree d) where
       go true is = no_object n (λ object. false≢true (sym (objects_shown d t n object) ∙ is))
       go false shown = is_one d t n (object_from d t n there visible shown)
 
-  -- whether it is one tells how it takes part
+  -- how it takes part tells whether it is one
   pub included_one : (n : ℕ) → has d n ≡ true → is_object d n ≡ is_object_by (inclusion d n)
   included_one n there = go (is_out d n) (ignored (spot d n)) refl refl
     where
@@ -184,7 +202,10 @@ module _ (d : Document) (t : IsTree d) where
 
   module _ (before : Tree) (ns down : List ℕ) (ordered : IsOrderOf d ns down) where
     abbrev shown : List ℕ
-    shown = flat_map (object_at d) down
+    shown = flat_map (fresh_at before d) down
+
+    abbrev stays : List ℕ
+    stays = staying before d down
 
     abbrev below : List ℕ
     below = flat_map (moved_kids before d ns) ns
@@ -198,29 +219,75 @@ module _ (d : Document) (t : IsTree d) where
     -- what is made anew is an object
     remade_object : (n : ℕ) → Contains (remade before d ns down) n → Contains (objects d) n
     remade_object n inside = elim (either_side shown below n inside) [
-      | inl first ↦ (let r = in_flat_map (object_at d) down n first in by_node r.0 (is_object d r.0) refl r.2)
+      | inl first ↦ (let r = in_flat_map (fresh_at before d) down n first in by_node r.0 (is_object d r.0) (not (is_same before d r.0)) refl r.2)
       | inr more ↦
           (let r = in_flat_map (moved_kids before d ns) ns n more in
           let k = kid_is d t r.0 n (kept_cases (is_moved before ns r.0) (kids_of (tree d) r.0) n r.2).0 in
           kids_are_objects d t r.0 n k.0 k.1)
     ]
       where
-        by_node : (m : ℕ) (b : Bool) → is_object d m ≡ b → Contains (cond b (m ∷ []) []) n → Contains (objects d) n
-        by_node m true on first = elim (Contains-cases n m [] first) [ inl is ↦ subst (Contains (objects d)) is (object_is d t m on) | inr none ↦ absurd (omega arith) ]
-        by_node m false off none = absurd (omega arith)
+        by_node : (m : ℕ) (b c : Bool) → is_object d m ≡ b → Contains (cond b (cond c (m ∷ []) []) []) n → Contains (objects d) n
+        by_node m true true on first = elim (Contains-cases n m [] first) [ inl is ↦ subst (Contains (objects d)) is (object_is d t m on) | inr none ↦ absurd (omega arith) ]
+        by_node m true false on none = absurd (omega arith)
+        by_node m false c off none = absurd (omega arith)
 
-    -- an object among the nodes is made anew
-    node_remade : (n : ℕ) → is_in ns n ≡ true → Contains (objects d) n → Contains shown n
-    node_remade n on object =
-        Contains-flat_map (object_at d) down n n (Contains-from_any eqb-true n down (ordered.same n ∙ on))
-        (subst (λ b. Contains (cond b (n ∷ []) []) n) (sym (is_one d t n object)) (Contains-head n []))
+    -- what stays has the record that the tree before had
+    pub stays_same : (n : ℕ) → Contains stays n → record_at before n ≡ record_at (tree d) n
+    stays_same n inside = let r = in_flat_map (same_at before d) down n inside in by_node r.0 (is_object d r.0) (is_same before d r.0) refl refl r.2
+      where
+        by_node : (m : ℕ) (b c : Bool) → is_object d m ≡ b → is_same before d m ≡ c → Contains (cond b (cond c (m ∷ []) []) []) n → record_at before n ≡ record_at (tree d) n
+        by_node m true true on same first = elim (Contains-cases n m [] first) [
+          | inl is ↦ subst (λ k. record_at before k ≡ record_at (tree d) k) is (same_found (record_at before m) (record_of d m) same ∙ sym (record_is d t m ∙ ap (λ b. cond b (Some (record_of d m)) None) on))
+          | inr none ↦ absurd (omega arith)
+        ]
+        by_node m true false on same none = absurd (omega arith)
+        by_node m false c off same none = absurd (omega arith)
 
-    -- an object that is a candidate is made anew
-    object_remade : IsObjectTree before → (n : ℕ) → Contains (candidates before d ns) n → Contains (objects d) n → Contains (remade before d ns down) n
+    module _ (hangs : IsObjectTree before) (stay same turned : List ℕ) (still : stay ≡ staying before d down) (in_order : IsSortedFrom stay same) (left : turned ≡ filter (λ n. not (is_in same n)) ns) where
+      left_out : (n : ℕ) → not (is_in same n) ≡ false → Contains stays n
+      left_out n off = subst (λ l. Contains l n) still (in_order.only n (Contains-from_any eqb-true n same (go (is_in same n) off)))
+        where
+          go : (b : Bool) → not b ≡ false → b ≡ true
+          go true e = refl
+          go false e = sym e
+
+      -- on an object whose record stays hangs what hung on it
+      kids_stay : (n : ℕ) → Contains stays n → kids_of before n ≡ kids_of (tree d) n
+      kids_stay n inside = ap (λ o. option_map_or (λ (r : Record). r.kids) o []) (stays_same n inside)
+
+      none_moves : (n : ℕ) → Contains stays n → moved_kids before d ns n ≡ []
+      none_moves n inside = none_moved before hangs ns n (kids_of (tree d) n) (λ k kid. subst (λ l. Contains l k) (sym (kids_stay n inside)) kid)
+
+      none_goes : (n : ℕ) → Contains stays n → lost before d n ≡ []
+      none_goes n inside = none_gone before d n (λ k kid.
+          let r = kid_is d t n k (subst (λ l. Contains l k) (kids_stay n inside) kid) in
+          objects_known d t k (kids_are_objects d t n k r.0 r.1))
+
+      -- what moved hangs on one of the others
+      pub moved_turned : flat_map (moved_kids before d ns) turned ≡ flat_map (moved_kids before d ns) ns
+      moved_turned = ap (flat_map (moved_kids before d ns)) left ∙ given_by_some (moved_kids before d ns) (λ n. not (is_in same n)) ns (λ n off. none_moves n (left_out n off))
+
+      -- what is gone hung below one of the others
+      pub gone_turned : flat_map (lost before d) turned ≡ flat_map (lost before d) ns
+      gone_turned = ap (flat_map (lost before d)) left ∙ given_by_some (lost before d) (λ n. not (is_in same n)) ns (λ n off. none_goes n (left_out n off))
+
+    -- an object among the nodes is made anew, or stays
+    node_remade : (n : ℕ) → is_in ns n ≡ true → Contains (objects d) n → Contains stays n ⊎ Contains shown n
+    node_remade n on object = go (is_same before d n) refl
+      where
+        there : Contains down n
+        there = Contains-from_any eqb-true n down (ordered.same n ∙ on)
+
+        go : (b : Bool) → is_same before d n ≡ b → Contains stays n ⊎ Contains shown n
+        go true same = inl (Contains-flat_map (same_at before d) down n n there (subst (λ l. Contains l n) (λ i. cond (sym (is_one d t n object) i) (cond (sym same i) (n ∷ []) []) []) (Contains-head n [])))
+        go false other = inr (Contains-flat_map (fresh_at before d) down n n there (subst (λ l. Contains l n) (λ i. cond (sym (is_one d t n object) i) (cond (not (sym other i)) (n ∷ []) []) []) (Contains-head n [])))
+
+    -- an object that is a candidate is made anew, or stays
+    object_remade : IsObjectTree before → (n : ℕ) → Contains (candidates before d ns) n → Contains (objects d) n → Contains stays n ⊎ Contains (remade before d ns down) n
     object_remade hangs n inside object = elim (either_side ns (below ++ gone) n inside) [
-      | inl node ↦ in_left shown below n (node_remade n (is_among n node) object)
+      | inl node ↦ (elim (node_remade n (is_among n node) object) [ inl same ↦ inl same | inr first ↦ inr (in_left shown below n first) ])
       | inr more ↦ (elim (either_side below gone n more) [
-        | inl hung ↦ in_right shown below n hung
+        | inl hung ↦ inr (in_right shown below n hung)
         | inr none ↦ (let r = in_flat_map (lost before d) ns n none in absurd (false≢true (sym (lost_gone before d hangs r.0 n r.2) ∙ objects_known d t n object)))
       ])
     ]
@@ -230,14 +297,18 @@ module _ (d : Document) (t : IsTree d) where
     agree false true there back = back refl
     agree false false there back = refl
 
-    -- at each candidate is found what the tree has there
-    pub remade_found : IsObjectTree before → (ids : List ℕ) → IsSortedFrom (candidates before d ns) ids → (n : ℕ) → Contains ids n → entry_at (with_records d [] (remade before d ns down)) n ≡ record_at (tree d) n
-    remade_found hangs ids sorted n inside =
+    -- at each candidate that does not stay is found what the tree has there
+    pub remade_found : IsObjectTree before → (near : List ℕ) → IsSortedFrom (candidates before d ns) near → (n : ℕ) → Contains near n → (Contains stays n → ⊥) → entry_at (with_records d [] (remade before d ns down)) n ≡ record_at (tree d) n
+    remade_found hangs near sorted n inside moves =
         found_after n [] (remade before d ns down)
         ∙ ap (λ b. cond b (Some (record_of d n)) None) (agree (is_in (remade before d ns down) n) (is_object d n)
         (λ on. is_one d t n (remade_object n (Contains-from_any eqb-true n (remade before d ns down) on)))
-        (λ on. list_any-from_Contains nat_eq_equiv n (remade before d ns down) (object_remade hangs n (sorted.only n inside) (object_is d t n on))))
+        (λ on. list_any-from_Contains nat_eq_equiv n (remade before d ns down) (anew (object_remade hangs n (sorted.only n inside) (object_is d t n on)))))
         ∙ sym (record_is d t n)
+      where
+        anew : Contains stays n ⊎ Contains (remade before d ns down) n → Contains (remade before d ns down) n
+        anew (inl same) = absurd (moves same)
+        anew (inr made) = made
 
 -- one object that hangs on another, as a list
 pub one_hung : (d : Document) (n k : ℕ) → Contains (objects d) n → Contains (kids d n) k → AreHungOn d n (k ∷ [])

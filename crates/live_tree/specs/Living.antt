@@ -67,8 +67,8 @@ pub record IsPresent (d : Document) (p : Passes) (ns : List ℕ) : Type 0 where
   pub closed : IsClosedUp d ns
   pub focus : HasFocusAmong d ns
 
--- With other records at some ids and another focus, a tree is that of a document, and the ids have each at which the two trees differ.
-pub record LeadsTo (kept : Tree) (d : Document) (records : List (ℕ × Record)) (ids : List ℕ) (focus : Option ℕ) : Type 0 where
+-- With other records at some ids and another focus, a tree is that of a document; the ids have each at which the two trees differ, and some more are those of which something may be told.
+pub record LeadsTo (kept : Tree) (d : Document) (records : List (ℕ × Record)) (ids near : List ℕ) (focus : Option ℕ) : Type 0 where
   pub becomes : renewed_tree kept records ids focus ≡ tree d
   pub differ : HaveAllDiffering kept (tree d) ids
-  pub told : AreCandidates kept (tree d) ids
+  pub told : AreCandidates kept (tree d) near

@@ -1,20 +1,39 @@
 -- The objects of which a record is made anew.
-use Rattle.std.specs.Prelude.{◌≡◌, ◌≤◌, ℕ, false, length, List, [], ◌∷◌, ◌++◌, if◌then◌else◌, flat_map, Contains}
+use Rattle.std.specs.Prelude.{◌≡◌, ◌≤◌, ℕ, Bool, not, false, length, List, [], ◌∷◌, ◌++◌, if◌then◌else◌, flat_map, Contains}
+use Rattle.std.specs.Option.{option_map_or}
 use Rattle.ax_base.specs.Document.{Document}
 use Rattle.ax_base.specs.Kids.{kids, objects}
 use Rattle.ax_dom.specs.Among.{is_in}
-use Rattle.ax_record.specs.Tree.{Tree}
-use Rattle.ax_record.specs.Records.{is_object}
+use Rattle.ax_fresh.specs.Contents.{same_record}
+use Rattle.ax_record.specs.declared.record.Record.{Record}
+use Rattle.ax_record.specs.Tree.{Tree, record_at}
+use Rattle.ax_record.specs.Records.{is_object, record_of}
 use Rattle.node_order.specs.Orders.{IsFromAbove}
 use Rattle.tree_diff.specs.Candidates.{moved_kids}
 
--- a node, where it is an object
-abbrev pub object_at : Document → ℕ → List ℕ
-object_at d n = if is_object d n then n ∷ [] else []
+-- whether a tree has a record at an id
+abbrev pub has_record : Tree → ℕ → Record → Bool
+has_record before n r = option_map_or (λ (was : Record). same_record was r) (record_at before n) false
 
--- the objects of which a record is made: those among some nodes, which are listed from above, and those that hang on one of these but hung elsewhere before
+-- whether a tree has the record that a node of a document has as an object
+abbrev pub is_same : Tree → Document → ℕ → Bool
+is_same before d n = has_record before n (record_of d n)
+
+-- a node, where it is an object whose record the tree before had not
+abbrev pub fresh_at : Tree → Document → ℕ → List ℕ
+fresh_at before d n = if is_object d n then (if not (is_same before d n) then n ∷ [] else []) else []
+
+-- a node, where it is an object whose record the tree before had
+abbrev pub same_at : Tree → Document → ℕ → List ℕ
+same_at before d n = if is_object d n then (if is_same before d n then n ∷ [] else []) else []
+
+-- the objects whose record stays, of some nodes
+abbrev pub staying : Tree → Document → List ℕ → List ℕ
+staying before d down = flat_map (same_at before d) down
+
+-- the objects of which a record is made: those among some nodes, which are listed from above, that have not the record that they had, and those that hang on one of these nodes but hung elsewhere before
 abbrev pub remade : Tree → Document → List ℕ → List ℕ → List ℕ
-remade before d ns down = flat_map (object_at d) down ++ flat_map (moved_kids before d ns) ns
+remade before d ns down = flat_map (fresh_at before d) down ++ flat_map (moved_kids before d ns) ns
 
 -- Nodes in an order from above are some nodes, and no more.
 pub record IsOrderOf (d : Document) (ns down : List ℕ) : Type 0 where

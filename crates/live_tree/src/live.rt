@@ -20,7 +20,7 @@ ghost use Rattle.live_tree.specs.LiveTrees.{unmarked};
 ghost use Rattle.live_tree.specs.Living.{ArePassesOf, IsRightBut};
 
 use crate::passes::{Passes, passes_uncounted};
-use crate::renewing::renewed_tree;
+use crate::renewing::{Turned, renewed_tree};
 use ax_base::{Ids, Moment, NoMemory, Notices, ObjId, Steps};
 use ax_batch::Batch;
 use ax_dom::{Dom, Edit, EditCause};
@@ -124,7 +124,7 @@ impl LiveTree {
         Ok(())
     }
 
-    /// Brings the tree to the present document, for a moment of that number. It counts the reads of the document: fifteen at
+    /// Brings the tree to the present document, for a moment of that number. It counts the reads of the document: thirteen at
     /// most of what the marks weigh, at `Err` too. At `Err` the live tree is given up.
     pub fn flush<L: Ledger>(
         self,
@@ -135,7 +135,7 @@ impl LiveTree {
         ensures tree { IfOk result (λ r. r.0 ≡ unmarked (tree self.document) self.document) }
         ensures batch { IfOk result (λ r. r.1.batch ≡ batch_between self.flushed (tree self.document)) }
         ensures notices { IfOk result (λ r. r.1.notices ≡ notices_between self.flushed (tree self.document) moment) }
-        ensures counted { steps.new ≤ steps.old + 15 * weight self.document self.marks }
+        ensures counted { steps.new ≤ steps.old + 13 * weight self.document self.marks }
     {
         let LiveTree {
             flushed: kept,
@@ -155,7 +155,7 @@ impl LiveTree {
 }
 
 /// The tree of a document and what is kept of its nodes, made of those of an earlier document that is alike at each node
-/// but some; and what differs, and what is told of it. It reads each of these nodes twelve times at most, and no other.
+/// but some; and what differs, and what is told of it. It reads each of these nodes ten times at most, and no other.
 fn renewed<L: Ledger>(
     alloc: Global,
     kept: KeptTree,
@@ -170,7 +170,7 @@ fn renewed<L: Ledger>(
     ensures passes { IfOk result (λ r. ArePassesOf dom.now r.1) }
     ensures batch { IfOk result (λ r. r.2.batch ≡ batch_between kept (tree dom.now)) }
     ensures notices { IfOk result (λ r. r.2.notices ≡ notices_between kept (tree dom.now) moment) }
-    ensures counted { steps.new ≤ steps.old + 12 * length reach.now }
+    ensures counted { steps.new ≤ steps.old + 10 * length reach.now }
 {
     let now = dom.document();
     now.keeps_tree();
@@ -178,23 +178,27 @@ fn renewed<L: Ledger>(
     let order = from_above(alloc, now, nodes, steps)?;
     let down = order.as_slice();
     let passes = passes.renew(alloc, now, dom.index(), down, steps)?;
-    let turned = renewed_tree(alloc, kept, now, &passes, nodes, down, steps)?;
-    let sent = told(alloc, &turned, moment)?;
-    let settled = turned.settle()?;
+    let Turned { tree, near } = renewed_tree(alloc, kept, now, &passes, nodes, down, steps)?;
+    let sent = told(alloc, &tree, near.as_slice(), moment)?;
+    let settled = tree.settle()?;
     Ok((settled, passes, sent))
 }
 
-/// What differs from a tree to the one that it becomes, and what is told of it.
-fn told(alloc: Global, turned: &RenewedTree, moment: Moment) -> Result<Flushed, NoMemory>
+/// What differs from a tree to the one that it becomes, and what is told of it, which is of some ids alone.
+fn told(
+    alloc: Global,
+    turned: &RenewedTree,
+    near: &[ObjId],
+    moment: Moment,
+) -> Result<Flushed, NoMemory>
     requires differ { HaveAllDiffering turned.now.before turned.now.after turned.now.places }
-    requires told { AreCandidates turned.now.before turned.now.after turned.now.places }
+    requires told { AreCandidates turned.now.before turned.now.after near.now }
     ensures batch { IfOk result (λ r. r.batch ≡ batch_between turned.now.before turned.now.after) }
     ensures notices { IfOk result (λ r. r.notices ≡ notices_between turned.now.before turned.now.after moment) }
 {
     let before = turned.before();
-    let places = turned.places();
-    let batch = batch_among(alloc, before, turned, places)?;
-    let notices = notices_among(alloc, before, turned, moment, places)?;
+    let batch = batch_among(alloc, before, turned, turned.places())?;
+    let notices = notices_among(alloc, before, turned, moment, near)?;
     Ok(Flushed { batch, notices })
 }
 

@@ -1,36 +1,36 @@
 //! The records of objects that are made anew.
 ghost use Rattle.std.specs.Prelude.{◌≡◌, ◌≤◌, ◌+◌, ◌*◌, ◌++◌, ◌∷◌, ◌&&◌, [], ℕ, length, not, nat_eq, true, false, if◌then◌else◌, Some, IfOk, OnOk};
-ghost use Rattle.std.specs.List.{flat_map};
+ghost use Rattle.std.specs.List.{flat_map, filter};
+ghost use Rattle.std.specs.List.Sorted.{IsStrictlyIncreasing};
 ghost use Rattle.std.specs.Ordering.{nat_cmp};
 ghost use Rattle.std.specs.BTreeMap.{insert_entry};
-ghost use Rattle.ax_base.specs.AccessibleNames.{name_of, description_of};
 ghost use Rattle.ax_base.specs.Document.{Document, has, IsChild};
+ghost use Rattle.ax_base.specs.Rects.{HasRectsWithin};
 ghost use Rattle.ax_base.specs.Trees.{IsTree};
 ghost use Rattle.ax_notice.specs.Candidates.{AreCandidates};
 ghost use Rattle.ax_record.specs.Records.{tree, record_of, object_parent, is_object, focused_object};
 ghost use Rattle.ax_dom.specs.Among.{is_in, IsClosedUp};
 ghost use Rattle.ax_dom.specs.NodeMaps.{cell_at};
+ghost use Rattle.ax_fresh.specs.Contents.{record_by};
 ghost use Rattle.ax_fresh.specs.Gathering.{with_records};
-ghost use Rattle.ctx_pass.specs.Contexts.{AreContextsOf};
-ghost use Rattle.said_pass.specs.Saids.{AreSaidsOf};
+ghost use Rattle.kids_pass.specs.Kids.{AreKidsOf};
 ghost use Rattle.tree_diff.specs.Candidates.{moved_kids, HaveAllDiffering};
 ghost use Rattle.live_tree.specs.Living.{HasFocusAmong, IsPresent, WasAlike, LeadsTo};
 ghost use Rattle.live_tree.specs.Hosts.{host, host_at, host_kept};
-ghost use Rattle.live_tree.specs.Remaking.{object_at, remade, IsOrderOf, AreHungOn, AreNotAmong};
+ghost use Rattle.live_tree.specs.Remaking.{has_record, is_same, fresh_at, same_at, staying, IsOrderOf, AreHungOn, AreNotAmong};
 
 use crate::hosts::Hosts;
 use crate::passes::Passes;
 use ax_base::{Ids, NoMemory, ObjId, Steps};
-use ax_dom::{Cell, Dom};
-use ax_fresh::{Called, record_called};
+use ax_dom::{Cell, Dom, is_among};
+use ax_fresh::RecordParts;
 use ax_record::TreeView;
-use ax_roles::{node_inclusion, node_role};
-use ctx_pass::Contexts;
+use ax_roles::node_role;
 use kept_tree::{FewRecords, KeptTree, RenewedTree};
-use said_pass::Saids;
+use kids_pass::Kids;
 use std::alloc::Global;
 use std::sync::ledger::Ledger;
-use tree_diff::{candidates, moved_kids};
+use tree_diff::{candidates, moved_kids, sorted_once};
 
 /// A tree that is kept, a document with what is kept of its nodes, and the nodes at which it may differ from the document of
 /// the tree, by rising id and in an order from above.
@@ -44,12 +44,30 @@ struct Renewal<'a> {
     down: &'a [ObjId],
 }
 
-/// What makes the tree that is kept that of the document: the records at some ids, by rising number, and the focus.
+/// The tree that becomes that of a document, and the ids of which something may be told, by rising number.
+#[derive(Drop)]
+pub(crate) struct Turned {
+    /// The tree before, and the one that it becomes.
+    pub(crate) tree: RenewedTree,
+    /// The ids of which something may be told.
+    pub(crate) near: Ids,
+}
+
+/// What makes the tree that is kept that of the document: the records at some ids, by rising number, and the focus. Of more
+/// ids something may be told, which are `near`.
 #[derive(Drop)]
 struct Changes {
     ids: Ids,
+    near: Ids,
     records: FewRecords,
     focus: Option<ObjId>,
+}
+
+/// Records that are made of some nodes, and the ids of the objects among these whose record stays.
+#[derive(Drop)]
+struct Made {
+    records: FewRecords,
+    same: Ids,
 }
 
 /// The records that are made so far, and the ids of the objects that hung elsewhere before.
@@ -60,7 +78,7 @@ struct Fresh {
 }
 
 /// What a tree becomes that is kept of a document which was as it is now at each node but some, which are `nodes` by rising
-/// id and `down` in an order from above. It reads each of these four times at most, and no other node.
+/// id and `down` in an order from above. It reads each of these twice at most, and no other node.
 pub(crate) fn renewed_tree<L: Ledger>(
     alloc: Global,
     kept: KeptTree,
@@ -69,19 +87,24 @@ pub(crate) fn renewed_tree<L: Ledger>(
     nodes: &[ObjId],
     down: &[ObjId],
     steps: &mut Steps<L>,
-) -> Result<RenewedTree, NoMemory>
+) -> Result<Turned, NoMemory>
     requires present { IsPresent dom.now passes.now nodes.now }
     requires order { IsOrderOf dom.now nodes.now down.now }
     requires was { WasAlike kept dom.now nodes.now }
-    ensures before { IfOk result (λ r. r.before ≡ kept) }
-    ensures after { IfOk result (λ r. r.after ≡ tree dom.now) }
-    ensures differ { IfOk result (λ r. HaveAllDiffering r.before r.after r.places) }
-    ensures told { IfOk result (λ r. AreCandidates r.before r.after r.places) }
-    ensures counted { steps.new ≤ steps.old + 4 * length nodes.now }
+    ensures before { IfOk result (λ r. r.tree.before ≡ kept) }
+    ensures after { IfOk result (λ r. r.tree.after ≡ tree dom.now) }
+    ensures differ { IfOk result (λ r. HaveAllDiffering r.tree.before r.tree.after r.tree.places) }
+    ensures told { IfOk result (λ r. AreCandidates r.tree.before r.tree.after r.near) }
+    ensures counted { steps.new ≤ steps.old + 2 * length nodes.now }
 {
-    let changes = changes_of(alloc, &kept, dom, passes, nodes, down, steps)?;
-    let turned = RenewedTree::new(kept, changes.ids, changes.records, changes.focus);
-    Ok(turned)
+    let Changes {
+        ids,
+        near,
+        records,
+        focus,
+    } = changes_of(alloc, &kept, dom, passes, nodes, down, steps)?;
+    let tree = RenewedTree::new(kept, ids, records, focus);
+    Ok(Turned { tree, near })
 }
 
 /// What makes a tree that is kept that of the document.
@@ -97,8 +120,8 @@ fn changes_of<L: Ledger>(
     requires present { IsPresent dom.now passes.now nodes.now }
     requires order { IsOrderOf dom.now nodes.now down.now }
     requires was { WasAlike kept.now dom.now nodes.now }
-    ensures value { IfOk result (λ c. LeadsTo kept.now dom.now c.records c.ids c.focus) }
-    ensures counted { steps.new ≤ steps.old + 4 * length nodes.now }
+    ensures value { IfOk result (λ c. LeadsTo kept.now dom.now c.records c.ids c.near c.focus) }
+    ensures counted { steps.new ≤ steps.old + 2 * length nodes.now }
 {
     let renewal = Renewal {
         alloc,
@@ -117,72 +140,61 @@ impl Renewal<'_> {
         requires present { IsPresent self.now.dom.now self.now.passes.now self.now.nodes.now }
         requires order { IsOrderOf self.now.dom.now self.now.nodes.now self.now.down.now }
         requires was { WasAlike self.now.kept.now self.now.dom.now self.now.nodes.now }
-        ensures value { IfOk result (λ c. LeadsTo self.now.kept.now self.now.dom.now c.records c.ids c.focus) }
-        ensures counted { steps.new ≤ steps.old + 4 * length self.now.nodes.now }
+        ensures value { IfOk result (λ c. LeadsTo self.now.kept.now self.now.dom.now c.records c.ids c.near c.focus) }
+        ensures counted { steps.new ≤ steps.old + 2 * length self.now.nodes.now }
     {
-        let _root = self.kept.find(self.kept.root());
-        let Fresh { records, moved } = self.gather(steps)?;
-        let ids = candidates(self.kept, self.dom, &self.passes.kids, self.nodes, moved)?;
-        let focus = focused_object(self.dom, &self.passes.contexts, self.nodes, steps);
+        let Made { records, same } = self.make_nodes(steps)?;
+        let same = sorted_once(same);
+        let turned = without(self.alloc, self.nodes, &same)?;
+        let turned = turned.as_slice();
+        let Fresh { records, moved } = self.with_moved(records, turned)?;
+        let kids = &self.passes.kids;
+        let near = candidates(self.kept, self.dom, kids, self.nodes, turned, moved)?;
+        let ids = without(self.alloc, near.as_slice(), &same)?;
+        let focus = focused_object(self.dom, kids, self.nodes, steps);
         Ok(Changes {
             ids,
+            near,
             records,
             focus,
         })
     }
 
-    /// The records of the objects among the nodes, and of those that hang on one of the nodes but hung elsewhere before.
-    fn gather<L: Ledger>(&self, steps: &mut Steps<L>) -> Result<Fresh, NoMemory>
+    /// The records of the objects among the nodes that have not the one that they had, and the ids of the others. The nodes
+    /// are taken from above, so that the object on which each hangs is known. It reads each once.
+    fn make_nodes<L: Ledger>(&self, steps: &mut Steps<L>) -> Result<Made, NoMemory>
         requires present { IsPresent self.now.dom.now self.now.passes.now self.now.nodes.now }
         requires order { IsOrderOf self.now.dom.now self.now.nodes.now self.now.down.now }
-        requires was { WasAlike self.now.kept.now self.now.dom.now self.now.nodes.now }
-        ensures records { IfOk result (λ f. f.records ≡ with_records self.now.dom.now [] (remade self.now.kept.now self.now.dom.now self.now.nodes.now self.now.down.now)) }
-        ensures moved { IfOk result (λ f. f.moved ≡ flat_map (moved_kids self.now.kept.now self.now.dom.now self.now.nodes.now) self.now.nodes.now) }
-        ensures counted { steps.new ≤ steps.old + 2 * length self.now.nodes.now }
-    {
-        let mut records = FewRecords::new(self.alloc);
-        self.put_nodes(&mut records, steps)?;
-        let mut fresh = Fresh {
-            records,
-            moved: Ids::new(self.alloc),
-        };
-        self.put_all_moved(&mut fresh, steps)?;
-        Ok(fresh)
-    }
-
-    /// Puts in the records of the objects among the nodes, from above, so that the object on which each hangs is known. It
-    /// reads each node once.
-    fn put_nodes<L: Ledger>(
-        &self,
-        records: &mut FewRecords,
-        steps: &mut Steps<L>,
-    ) -> Result<(), NoMemory>
-        requires present { IsPresent self.now.dom.now self.now.passes.now self.now.nodes.now }
-        requires order { IsOrderOf self.now.dom.now self.now.nodes.now self.now.down.now }
-        ensures records { OnOk result (records.new ≡ with_records self.now.dom.now records.old (flat_map (object_at self.now.dom.now) self.now.down.now)) }
+        ensures records { IfOk result (λ m. m.records ≡ with_records self.now.dom.now [] (flat_map (fresh_at self.now.kept.now self.now.dom.now) self.now.down.now)) }
+        ensures same { IfOk result (λ m. m.same ≡ staying self.now.kept.now self.now.dom.now self.now.down.now) }
         ensures counted { steps.new ≤ steps.old + length self.now.down.now }
     {
+        let mut made = Made {
+            records: FewRecords::new(self.alloc),
+            same: Ids::new(self.alloc),
+        };
         let mut hosts = Hosts::new(self.alloc);
         let down = self.down;
         for id in down {
-            self.put_node(*id, &mut hosts, records, steps)?;
+            self.put_node(*id, &mut hosts, &mut made, steps)?;
         }
-        Ok(())
+        Ok(made)
     }
 
-    /// Puts in the record of a node, where it is an object; else keeps on which object its children hang. It reads the node
-    /// once.
+    /// Puts in the record of a node, where it is an object and the record is new; else keeps on which object its children
+    /// hang. It reads the node once.
     fn put_node<L: Ledger>(
         &self,
         id: ObjId,
         hosts: &mut Hosts,
-        records: &mut FewRecords,
+        made: &mut Made,
         steps: &mut Steps<L>,
     ) -> Result<(), NoMemory>
         requires present { IsPresent self.now.dom.now self.now.passes.now self.now.nodes.now }
         requires known { has self.now.dom.now id ≡ true }
         requires parent { (p : ℕ) → IsChild self.now.dom.now p id → host_at hosts.old p ≡ host_kept self.now.dom.now p }
-        ensures records { OnOk result (records.new ≡ with_records self.now.dom.now records.old (object_at self.now.dom.now id)) }
+        ensures records { OnOk result (made.new.records ≡ with_records self.now.dom.now made.old.records (fresh_at self.now.kept.now self.now.dom.now id)) }
+        ensures same { OnOk result (made.new.same ≡ made.old.same ++ same_at self.now.kept.now self.now.dom.now id) }
         ensures hosts { OnOk result ((n : ℕ) → host_at hosts.new n ≡ (if nat_eq n id && not (is_object self.now.dom.now id) then Some (host self.now.dom.now id) else host_at hosts.old n)) }
         ensures counted { steps.new ≤ steps.old + 1 }
     {
@@ -190,70 +202,82 @@ impl Renewal<'_> {
             return Ok(());
         };
         let above = hosts.above(cell.parent);
-        if !is_shown(&self.passes.contexts, id, cell) {
+        if !is_object(self.dom, &self.passes.kids, id) {
             hosts.put(id, above)?;
             return Ok(());
         }
-        self.put_record(id, cell, above, records)?;
+        self.put_object(id, cell, above, made)?;
         Ok(())
     }
 
-    /// Puts in the record of an object, which hangs on `parent`.
-    fn put_record(
+    /// Puts in the record of an object, which hangs on `parent`. Where it has that record already, nothing of it is copied.
+    fn put_object(
         &self,
         id: ObjId,
         cell: &Cell,
         parent: Option<ObjId>,
-        records: &mut FewRecords,
+        made: &mut Made,
     ) -> Result<(), NoMemory>
         requires present { IsPresent self.now.dom.now self.now.passes.now self.now.nodes.now }
         requires cell { Some cell.now ≡ cell_at self.now.dom.now id }
         requires parent { parent ≡ object_parent self.now.dom.now id }
-        ensures { OnOk result (records.new ≡ insert_entry nat_cmp records.old id (record_of self.now.dom.now id)) }
+        ensures records { OnOk result (made.new.records ≡ with_records self.now.dom.now made.old.records (if not (is_same self.now.kept.now self.now.dom.now id) then id ∷ [] else [])) }
+        ensures same { OnOk result (made.new.same ≡ made.old.same ++ (if is_same self.now.kept.now self.now.dom.now id then id ∷ [] else [])) }
     {
-        let alloc = self.alloc;
-        let role = node_role(id, &cell.body);
-        let live = self.passes.contexts.context(id).live;
-        let below = ids_of(alloc, self.passes.kids.kids(id))?;
-        let called = called(alloc, &self.passes.saids, id)?;
-        let object = record_called(alloc, cell, role, live, parent, below, called)?;
-        records.put(object)?;
+        let parts = RecordParts {
+            cell,
+            role: node_role(id, &cell.body),
+            live: self.passes.contexts.context(id).live,
+            parent,
+            kids: self.passes.kids.kids(id),
+            name: self.passes.saids.name(id),
+            description: self.passes.saids.description(id),
+        };
+        if self.has_record(id, &parts) {
+            made.same.push(id)?;
+            return Ok(());
+        }
+        let object = parts.make(self.alloc)?;
+        made.records.put(object)?;
         Ok(())
     }
 
-    /// Puts in the records of the objects that hang on one of the nodes but hung elsewhere before.
-    fn put_all_moved<L: Ledger>(
-        &self,
-        fresh: &mut Fresh,
-        steps: &mut Steps<L>,
-    ) -> Result<(), NoMemory>
+    /// Whether an object of the tree that is kept has the record that is made of some parts.
+    fn has_record(&self, id: ObjId, parts: &RecordParts<'_>) -> bool
+        requires { HasRectsWithin parts.now.cell.now.body }
+        ensures { result ≡ has_record self.now.kept.now id (record_by parts.now.cell.now parts.now.role parts.now.live parts.now.parent parts.now.kids.now parts.now.name.now parts.now.description.now) }
+    {
+        match self.kept.find(id) {
+            Some(object) => parts.is_record(object),
+            None => false,
+        }
+    }
+
+    /// Records, with those of the objects that hang on one of some nodes but hung elsewhere before.
+    fn with_moved(&self, records: FewRecords, turned: &[ObjId]) -> Result<Fresh, NoMemory>
         requires present { IsPresent self.now.dom.now self.now.passes.now self.now.nodes.now }
         requires was { WasAlike self.now.kept.now self.now.dom.now self.now.nodes.now }
-        ensures records { OnOk result (fresh.new.records ≡ with_records self.now.dom.now fresh.old.records (flat_map (moved_kids self.now.kept.now self.now.dom.now self.now.nodes.now) self.now.nodes.now)) }
-        ensures moved { OnOk result (fresh.new.moved ≡ fresh.old.moved ++ flat_map (moved_kids self.now.kept.now self.now.dom.now self.now.nodes.now) self.now.nodes.now) }
-        ensures counted { steps.new ≤ steps.old + length self.now.nodes.now }
+        ensures records { IfOk result (λ f. f.records ≡ with_records self.now.dom.now records (flat_map (moved_kids self.now.kept.now self.now.dom.now self.now.nodes.now) turned.now)) }
+        ensures moved { IfOk result (λ f. f.moved ≡ flat_map (moved_kids self.now.kept.now self.now.dom.now self.now.nodes.now) turned.now) }
     {
-        let nodes = self.nodes;
-        for id in nodes {
-            self.put_hung(*id, fresh, steps)?;
+        let mut fresh = Fresh {
+            records,
+            moved: Ids::new(self.alloc),
+        };
+        for id in turned {
+            self.put_hung(*id, &mut fresh)?;
         }
-        Ok(())
+        Ok(fresh)
     }
 
-    /// Puts in the records of the objects that hang on a node but hung elsewhere before. It reads the node once, and no other.
-    fn put_hung<L: Ledger>(
-        &self,
-        id: ObjId,
-        fresh: &mut Fresh,
-        steps: &mut Steps<L>,
-    ) -> Result<(), NoMemory>
+    /// Puts in the records of the objects that hang on a node but hung elsewhere before. It reads no node.
+    fn put_hung(&self, id: ObjId, fresh: &mut Fresh) -> Result<(), NoMemory>
         requires present { IsPresent self.now.dom.now self.now.passes.now self.now.nodes.now }
         requires was { WasAlike self.now.kept.now self.now.dom.now self.now.nodes.now }
         ensures records { OnOk result (fresh.new.records ≡ with_records self.now.dom.now fresh.old.records (moved_kids self.now.kept.now self.now.dom.now self.now.nodes.now id)) }
         ensures moved { OnOk result (fresh.new.moved ≡ fresh.old.moved ++ moved_kids self.now.kept.now self.now.dom.now self.now.nodes.now id) }
-        ensures counted { steps.new ≤ steps.old + 1 }
     {
-        if !is_object(self.dom, &self.passes.contexts, id, steps) {
+        if !is_object(self.dom, &self.passes.kids, id) {
             return Ok(());
         }
         let kids = self.passes.kids.kids(id);
@@ -297,61 +321,55 @@ impl Renewal<'_> {
     }
 }
 
-/// What a node is called, copied.
-fn called(alloc: Global, saids: &Saids, id: ObjId) -> Result<Called, NoMemory>
-    ensures { IfOk result (λ c. (d : Document) → AreSaidsOf d saids.now → has d id ≡ true → (c.name ≡ name_of d id) × (c.description ≡ description_of d id)) }
+/// Those of some ids that are not among others, which rise.
+fn without(alloc: Global, ids: &[ObjId], others: &Ids) -> Result<Ids, NoMemory>
+    requires { IsStrictlyIncreasing others.now }
+    ensures { IfOk result (λ left. left ≡ filter (λ n. not (is_in others.now n)) ids.now) }
 {
-    Ok(Called {
-        name: saids.name(id).copy(alloc)?,
-        description: saids.description(id).copy(alloc)?,
-    })
+    let others = others.as_slice();
+    let mut left = Ids::new(alloc);
+    for id in ids {
+        push_unless(is_among(others, *id), *id, &mut left)?;
+    }
+    Ok(left)
 }
 
-/// Some ids as a list.
-fn ids_of(alloc: Global, ids: &[ObjId]) -> Result<Ids, NoMemory>
-    ensures { IfOk result (λ list. list ≡ ids.now) }
+/// Adds an id, or leaves it out.
+fn push_unless(unwanted: bool, id: ObjId, out: &mut Ids) -> Result<(), NoMemory>
+    ensures { OnOk result (out.new ≡ (if not unwanted then out.old ++ id ∷ [] else out.old)) }
 {
-    Ok(Ids::from_vec(Vec::from_slice(alloc, ids)?))
+    if unwanted {
+        return Ok(());
+    }
+    out.push(id)
 }
 
-/// Whether a node is an object of the tree of its document. It reads the node once.
-fn is_object<L: Ledger>(dom: &Dom, contexts: &Contexts, id: ObjId, steps: &mut Steps<L>) -> bool
+/// Whether a node is an object of the tree of its document, of which `kids` are the kids. It reads no node.
+fn is_object(dom: &Dom, kids: &Kids, id: ObjId) -> bool
     requires tree { IsTree dom.now }
-    requires contexts { AreContextsOf dom.now contexts.now }
-    ensures value { result ≡ is_object dom.now id }
-    ensures counted { steps.new ≤ steps.old + 1 }
+    requires kids { AreKidsOf dom.now kids.now }
+    ensures { result ≡ is_object dom.now id }
 {
-    let Some(cell) = dom.cell(id, steps) else {
-        return false;
-    };
-    is_shown(contexts, id, cell)
-}
-
-/// Whether the node of a cell is an object of the tree of its document.
-fn is_shown(contexts: &Contexts, id: ObjId, cell: &Cell) -> bool
-    ensures { (d : Document) → IsTree d → AreContextsOf d contexts.now → Some cell.now ≡ cell_at d id → result ≡ is_object d id }
-{
-    let role = node_role(id, &cell.body);
-    node_inclusion(id, role, &cell.body, contexts.is_out(id)).is_object()
+    dom.has(id) && kids.is_object(id)
 }
 
 /// The object that has the focus: the focused node, or the nearest of its ancestors that is an object. The focused node and its
-/// ancestors are among `nodes`, and are read twice at most.
+/// ancestors are among `nodes`, and are read once at most.
 fn focused_object<L: Ledger>(
     dom: &Dom,
-    contexts: &Contexts,
+    kids: &Kids,
     nodes: &[ObjId],
     steps: &mut Steps<L>,
 ) -> Option<ObjId>
     requires tree { IsTree dom.now }
-    requires contexts { AreContextsOf dom.now contexts.now }
+    requires kids { AreKidsOf dom.now kids.now }
     requires closed { IsClosedUp dom.now nodes.now }
     requires focus { HasFocusAmong dom.now nodes.now }
     ensures value { result ≡ focused_object dom.now }
-    ensures counted { steps.new ≤ steps.old + 2 * length nodes.now }
+    ensures counted { steps.new ≤ steps.old + length nodes.now }
 {
     let mut at = dom.focus()?;
-    'up: while !is_object(dom, contexts, at, steps) {
+    'up: while !is_object(dom, kids, at) {
         at = dom.parent(at, steps)?;
     }
     Some(at)

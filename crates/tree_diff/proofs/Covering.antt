@@ -57,7 +57,7 @@ same_option : (x y : Option ℕ) → option_eq nat_eq x y ≡ true → x ≡ y
 same_option x y on = (option_equality nat_eq Decides-eqb x y).0 on
 
 -- an element that passes is kept
-kept_by : (test : ℕ → Bool) (xs : List ℕ) (n : ℕ) → Contains xs n → test n ≡ true → Contains (filter test xs) n
+pub kept_by : (test : ℕ → Bool) (xs : List ℕ) (n : ℕ) → Contains xs n → test n ≡ true → Contains (filter test xs) n
 kept_by test [] n inside on = absurd (omega arith)
 kept_by test (x ∷ xs) n inside on = go (test x) refl (Contains-cases n x xs inside) (λ more. kept_by test xs n more on)
   where

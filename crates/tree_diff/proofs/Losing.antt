@@ -67,6 +67,10 @@ module _ (before : Tree) (now : Document) where
       (λ i. cond (there k (Contains-head k ks) i) [] (k ∷ lost_within before now levels k) ++ flat_map (given_within before now levels) ks)
       ∙ all_there levels ks (λ c inside. there c (Contains-tail k c ks inside))
 
+  -- nothing is gone from below an object of which all kids are there
+  pub none_gone : (n : ℕ) → ((k : ℕ) → Contains (kids_of before n) k → has now k ≡ true) → lost before now n ≡ []
+  none_gone n there = above 127 n ∙ all_there 127 (kids_of before n) there
+
   -- what is gone from below an object, from those of its kids alone that differ from others which are there
   pub lost_among : (n : ℕ) (was others : List ℕ) (start end : ℕ) → was ≡ kids_of before n → AreSharedBut start end was others → ((k : ℕ) → Contains others k → has now k ≡ true)
       → (old new : List ℕ) → new ≡ old ++ flat_map (given_within before now 127) (take (end - start) (drop start was)) → new ≡ old ++ lost before now n

@@ -20,7 +20,8 @@ module _ (before : Tree) (t : IsObjectTree before) (ns : List ℕ) (above : ℕ)
   stays : (k : ℕ) → IsKid before above k → is_moved before ns above k ≡ false
   stays k kid = (λ i. not (option_eq nat_eq (t.parent above k kid i) (Some above)) && not (is_in ns k)) ∙ ap (λ b. not b && not (is_in ns k)) (eq-eqb above above refl)
 
-  none_moved : (xs : List ℕ) → ((k : ℕ) → Contains xs k → IsKid before above k) → filter (is_moved before ns above) xs ≡ []
+  -- of those that hung on it none moved
+  pub none_moved : (xs : List ℕ) → ((k : ℕ) → Contains xs k → IsKid before above k) → filter (is_moved before ns above) xs ≡ []
   none_moved [] hung = refl
   none_moved (x ∷ xs) hung =
       let rest : filter (is_moved before ns above) xs ≡ [] = none_moved xs (λ k inside. hung k (Contains-tail x k xs inside)) in

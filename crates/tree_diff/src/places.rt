@@ -22,16 +22,19 @@ const LEVELS: u32 = 128;
 
 /// The ids at which the tree of a document can differ from the one before, rising, where each node that is not among
 /// some is as it was: these nodes, the objects that hang on these but hung elsewhere before, which are `moved`, and what
-/// hung below these and is gone. It reads no node. Of what hung on a node it looks only those up that
-/// stand between the first and the last difference from `kids`, and it sorts what it found.
+/// hung below these and is gone. All that is gone hung below one of `turned`. It reads no node. Of what hung on one of
+/// `turned` it looks only those up that stand between the first and the last difference from `kids`, and it sorts what it
+/// found.
 pub fn candidates<T: TreeView>(
     before: &T,
     now: &Dom,
     kids: &Kids,
     nodes: &[ObjId],
+    turned: &[ObjId],
     moved: Ids,
 ) -> Result<Ids, NoMemory>
     requires kids { AreKidsOf now.now kids.now }
+    requires gone { flat_map (lost (T.tree before.now) now.now) turned.now ≡ flat_map (lost (T.tree before.now) now.now) nodes.now }
     requires moved { moved ≡ flat_map (moved_kids (T.tree before.now) now.now nodes.now) nodes.now }
     requires closed { IsClosedUp now.now nodes.now }
     ensures value { IfOk result (λ ids. IsSortedFrom (candidates (T.tree before.now) now.now nodes.now) ids) }
@@ -40,7 +43,7 @@ pub fn candidates<T: TreeView>(
 {
     now.keeps_tree();
     let mut found = moved;
-    push_lost_of(before, now, kids, nodes, &mut found)?;
+    push_lost_of(before, now, kids, turned, &mut found)?;
     push_all(nodes, &mut found)?;
     let sorted = sorted_once(found);
     Ok(sorted)

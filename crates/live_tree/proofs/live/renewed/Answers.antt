@@ -1,7 +1,10 @@
-use Rattle.std.proofs.Common.{subst, sym}
+use Rattle.std.proofs.Common.{subst, sym, ap, ◌∙◌}
+use Rattle.ax_batch.specs.Batches.{batch_between}
+use Rattle.ax_record.specs.Records.{tree}
 use Rattle.dom_ids.specs.Index.{IsIndexOf}
 use Rattle.live_tree.specs.Living.{IsRightBut}
 use Rattle.live_tree.proofs.Flushing.{listed_known, listed_closed, others_but, in_order, is_present, was_but, order_read, passes_read, all_read}
+use Rattle.live_tree.proofs.Turning.{at_both}
 use Rattle.live_tree.proofs.live.renewed.Goals as goal
 
 pub from_above-requires : goal.from_above-requires
@@ -39,18 +42,22 @@ renewed_tree-requires g c =
       was = was_but c.args.kept c.document-now.result.now c.args.passes c.args.reach.now right c.as_slice-nodes.result.now c.as_slice-nodes.ensures;
     }
 
-pub returns-in_err-turned-clause-counted : goal.returns-in_err-turned-clause-counted
-returns-in_err-turned-clause-counted g c =
-    all_read c.args.reach.now c.as_slice-nodes.result.now c.in_ok-order.order c.as_slice-down.result.now _ _ _ _ c.as_slice-nodes.ensures c.as_slice-down.ensures c.in_ok-order.ensures.few c.in_ok-order.ensures.counted c.in_ok-passes.ensures.counted c.in_err-turned.ensures.counted
+pub returns-in_err-tree-clause-counted : goal.returns-in_err-tree-clause-counted
+returns-in_err-tree-clause-counted g c =
+    all_read c.args.reach.now c.as_slice-nodes.result.now c.in_ok-order.order c.as_slice-down.result.now _ _ _ _ c.as_slice-nodes.ensures c.as_slice-down.ensures c.in_ok-order.ensures.few c.in_ok-order.ensures.counted c.in_ok-passes.ensures.counted c.in_err-tree.ensures.counted
 
 pub returns-in_err-sent-clause-counted : goal.returns-in_err-sent-clause-counted
 returns-in_err-sent-clause-counted g c =
-    all_read c.args.reach.now c.as_slice-nodes.result.now c.in_ok-order.order c.as_slice-down.result.now _ _ _ _ c.as_slice-nodes.ensures c.as_slice-down.ensures c.in_ok-order.ensures.few c.in_ok-order.ensures.counted c.in_ok-passes.ensures.counted c.in_ok-turned.ensures.counted
+    all_read c.args.reach.now c.as_slice-nodes.result.now c.in_ok-order.order c.as_slice-down.result.now _ _ _ _ c.as_slice-nodes.ensures c.as_slice-down.ensures c.in_ok-order.ensures.few c.in_ok-order.ensures.counted c.in_ok-passes.ensures.counted c.in_ok-tree.ensures.counted
 
 pub returns-in_err-settled-clause-counted : goal.returns-in_err-settled-clause-counted
 returns-in_err-settled-clause-counted g c =
-    all_read c.args.reach.now c.as_slice-nodes.result.now c.in_ok-order.order c.as_slice-down.result.now _ _ _ _ c.as_slice-nodes.ensures c.as_slice-down.ensures c.in_ok-order.ensures.few c.in_ok-order.ensures.counted c.in_ok-passes.ensures.counted c.in_ok-turned.ensures.counted
+    all_read c.args.reach.now c.as_slice-nodes.result.now c.in_ok-order.order c.as_slice-down.result.now _ _ _ _ c.as_slice-nodes.ensures c.as_slice-down.ensures c.in_ok-order.ensures.few c.in_ok-order.ensures.counted c.in_ok-passes.ensures.counted c.in_ok-tree.ensures.counted
 
 pub returns-clause-counted : goal.returns-clause-counted
 returns-clause-counted g c =
-    all_read c.args.reach.now c.as_slice-nodes.result.now c.in_ok-order.order c.as_slice-down.result.now _ _ _ _ c.as_slice-nodes.ensures c.as_slice-down.ensures c.in_ok-order.ensures.few c.in_ok-order.ensures.counted c.in_ok-passes.ensures.counted c.in_ok-turned.ensures.counted
+    all_read c.args.reach.now c.as_slice-nodes.result.now c.in_ok-order.order c.as_slice-down.result.now _ _ _ _ c.as_slice-nodes.ensures c.as_slice-down.ensures c.in_ok-order.ensures.few c.in_ok-order.ensures.counted c.in_ok-passes.ensures.counted c.in_ok-tree.ensures.counted
+
+pub returns-clause-batch : goal.returns-clause-batch
+returns-clause-batch g c =
+    at_both batch_between c.in_ok-sent.sent.batch c.in_ok-tree.field-0.tree.before c.in_ok-tree.field-0.tree.after c.args.kept (tree c.args.dom.now) c.in_ok-sent.ensures.batch c.in_ok-tree.ensures.before (c.in_ok-tree.ensures.after ∙ ap tree c.document-now.ensures)

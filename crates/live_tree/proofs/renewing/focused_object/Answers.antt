@@ -10,7 +10,7 @@ use Rattle.live_tree.proofs.renewing.focused_object.Goals as goal
 pub returns-in_err-at-2-clause-value : goal.returns-in_err-at-2-clause-value
 returns-in_err-at-2-clause-value g c =
     let d = c.args.dom.now in
-    let off : is_object d c.up.at ≡ false = sym c.is_object.ensures.value ∙ c.up-test.true in
+    let off : is_object d c.up.at ≡ false = sym c.is_object.ensures ∙ c.up-test.true in
     c.from_residual-in_err-at-2.ensures ∙ sym (find_top d (is_object d) c.up.at (sym c.in_err-at-2.ensures.value) off) ∙ c.up.invariant.value
 
 pub up-smaller : goal.up-smaller
@@ -19,10 +19,9 @@ up-smaller g c = parent_higher c.args.dom.now c.requires.tree c.up.at c.in_ok-at
 pub up-preserved : goal.up-preserved
 up-preserved g c =
     let d = c.args.dom.now in
-    let off : is_object d c.up.at ≡ false = sym c.is_object.ensures.value ∙ c.up-test.true in
+    let off : is_object d c.up.at ≡ false = sym c.is_object.ensures ∙ c.up-test.true in
     let higher = parent_higher d c.requires.tree c.up.at c.in_ok-at-2.at (sym c.in_ok-at-2.ensures.value) in
     let before = c.up.invariant.counted in
-    let first = c.is_object.ensures.counted in
     let second = c.in_ok-at-2.ensures.counted in
     record {
       value = sym (find_above d c.requires.tree (is_object d) c.up.at c.in_ok-at-2.at (sym c.in_ok-at-2.ensures.value) off) ∙ c.up.invariant.value;
@@ -32,7 +31,7 @@ up-preserved g c =
 pub returns-clause-value : goal.returns-clause-value
 returns-clause-value g c =
     let d = c.args.dom.now in
-    let on : is_object d c.up.at ≡ true = sym c.is_object.ensures.value ∙ c.up-test.false in
+    let on : is_object d c.up.at ≡ true = sym c.is_object.ensures ∙ c.up-test.false in
     sym (find_here d (is_object d) c.up.at on) ∙ c.up.invariant.value
 
 pub up-init : goal.up-init
